@@ -1,0 +1,6 @@
+//! Atomic longs.
+#![tactic(auto)]
+
+mod longs;
+
+pub use longs::Longs;

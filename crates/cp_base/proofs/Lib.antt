@@ -1,0 +1,4 @@
+pub mod Splits
+pub mod NameLemmas
+pub mod DecimalLemmas
+pub mod HexadecimalLemmas

@@ -1,0 +1,4 @@
+pub mod Names
+pub mod Decimals
+pub mod Hexadecimals
+pub mod Identifiers

@@ -1,0 +1,5 @@
+pub mod Group
+pub mod History
+pub mod Execution
+pub mod Transcript
+pub mod Headline

@@ -1,0 +1,4 @@
+pub mod Parting
+pub mod EventLemmas
+pub mod FaultLemmas
+pub mod EventLists

@@ -1,0 +1,4 @@
+pub mod Appending
+pub mod OneWord
+pub mod Following
+pub mod Promises

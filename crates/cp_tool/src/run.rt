@@ -1,0 +1,83 @@
+//! The top call.
+ghost use Rattle.std.specs.Prelude.{◌≡◌, ◌↔◌, ◌≤◌, ◌⊎◌, ℕ, codes, length, map, string_bytes, IfSome, IsTrue};
+ghost use Rattle.std.specs.Io.KnownBytes.{IsAtEnd};
+ghost use Rattle.cp_words.specs.Faults.{Exceeds, Rose};
+ghost use Rattle.cp_schedule.specs.Faults.{IsScheduleFault};
+ghost use Rattle.cp_schedule.specs.declared.reading.ScheduleError.{ScheduleError};
+ghost use Rattle.cp_tool.specs.Runs.{IsAfterReading, IsBeforeWrites, IsReplay, Replays, ReplaysFront};
+
+use crate::reading::{ReadEnd, read_all};
+use crate::replaying::transcript;
+use crate::status::Status;
+use crate::traits::{Fault, Sink, Source};
+use crate::writing::write_all;
+use cp_schedule::ScheduleError;
+use std::alloc::Global;
+
+fn is_word_replay(word: &str) -> bool
+    ensures { IsTrue result ↔ (word.now ≡ codes "replay") }
+{
+    word == "replay"
+}
+
+fn is_replay(words: &[String]) -> bool
+    ensures { IsTrue result ↔ IsReplay (map string_bytes words.now) }
+{
+    match words {
+        [word] => is_word_replay(word.as_str()),
+        _ => false,
+    }
+}
+
+/// Does what the words say: `replay` reads a schedule from the source, runs it, and writes its transcript to the sink.
+/// The text is made whole before the first write.
+pub fn run<S: Source, K: Sink>(
+    alloc: Global,
+    words: &[String],
+    source: &mut S,
+    sink: &mut K,
+) -> Status
+    // The source was read to its end and spells a schedule, whose transcript was written and keeps the promises.
+    ensures done { result ≡ Status.Done → IsReplay (map string_bytes words.now) → IfSome (S.left source.old) (λ bytes.
+        Replays bytes (K.written sink.old) (K.written sink.new)) }
+
+    // Each other status has its cause.
+    ensures usage { (result ≡ Status.Usage) ↔ (¬ IsReplay (map string_bytes words.now)) }
+    ensures unread { result ≡ Status.Usage → source.new ≡ source.old }
+    ensures read_fault { result ≡ Status.ReadFault → Rose (S.faults source.old) (S.faults source.new) }
+    ensures too_long { result ≡ Status.TooLong → Exceeds (S.left source.old) 16777216 }
+    ensures bad_schedule { (line : ℕ) → result ≡ Status.BadSchedule line → IfSome (S.left source.old) (IsScheduleFault (ScheduleError.BadSchedule line)) }
+    ensures not_built { (line : ℕ) → result ≡ Status.NotBuilt line → IfSome (S.left source.old) (IsScheduleFault (ScheduleError.NotBuilt line)) }
+    ensures write_fault { result ≡ Status.WriteFault → Rose (K.faults sink.old) (K.faults sink.new) }
+
+    // What was read and written by then.
+    ensures read_to_end { IsAfterReading result → IsAtEnd (S.left source.new) × IfSome (S.left source.old) (λ bytes. length bytes ≤ 16777216) }
+    ensures unwritten { IsBeforeWrites result → sink.new ≡ sink.old }
+    ensures front { result ≡ Status.WriteFault → IfSome (S.left source.old) (λ bytes. ReplaysFront bytes (K.written sink.old) (K.written sink.new)) }
+    ensures no_memory { result ≡ Status.NoMemory → (sink.new ≡ sink.old)
+        ⊎ IfSome (S.left source.old) (λ bytes. ReplaysFront bytes (K.written sink.old) (K.written sink.new)) }
+{
+    if !is_replay(words) {
+        return Status::Usage;
+    }
+    let bytes = match read_all(alloc, source) {
+        Ok(bytes) => bytes,
+        Err(ReadEnd::Failed) => return Status::ReadFault,
+        Err(ReadEnd::TooLong) => return Status::TooLong,
+        Err(ReadEnd::NoMemory) => return Status::NoMemory,
+    };
+    let schedule = match cp_schedule::read(alloc, &bytes) {
+        Ok(schedule) => schedule,
+        Err(ScheduleError::BadSchedule(line)) => return Status::BadSchedule(line),
+        Err(ScheduleError::NotBuilt(line)) => return Status::NotBuilt(line),
+        Err(ScheduleError::NoMemory) => return Status::NoMemory,
+    };
+    let Ok(text) = transcript(alloc, schedule) else {
+        return Status::NoMemory;
+    };
+    match write_all(sink, &text) {
+        Ok(()) => Status::Done,
+        Err(Fault::Failed) => Status::WriteFault,
+        Err(Fault::NoMemory) => Status::NoMemory,
+    }
+}

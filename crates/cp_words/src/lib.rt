@@ -1,0 +1,2 @@
+//! Definitions that several crates cite: lines of text, and when a fault may come. No code.
+#![tactic(auto)]
