@@ -20,6 +20,8 @@ struct Drip {
 }
 
 impl Source for Drip {
+    ghost use Rattle.std.specs.Prelude.{None};
+
     ghost left = { λ _. None };
 
     ghost faults = { λ _. 0 };
