@@ -93,9 +93,11 @@ module _ (events : List Event) (w : World) (client : ClientNo) (thread : ThreadN
       number_at : (place : ℕ) (e : Effects) → (slice_get w.so_far.effects place ≡ Some e) ⊎ ((place ≡ length w.so_far.effects) × (e ≡ shown_now)) → e.number ≡ place + 1
       number_at place e (inl old) = p.numbers place e old
       number_at place e (inr new) = ap (λ x. x.number) new.1 ∙ ap (λ n. n + 1) (sym new.0)
+
       request_at : (place : ℕ) (r : Request) → (slice_get w.so_far.requests place ≡ Some r) ⊎ ((place ≡ length w.so_far.requests) × (r ≡ request_now)) → r.call.number ≡ place + 1
       request_at place r (inl old) = p.request_numbers place r old
       request_at place r (inr new) = ap (λ x. x.call.number) new.1 ∙ ap (λ n. n + 1) (p.count ∙ sym p.requests ∙ sym new.0)
+
       return_at : (e : Effects) → Contains w.so_far.effects e ⊎ (e ≡ shown_now) → length e.returns ≡ 1
       return_at e (inl old) = p.returns e old
       return_at e (inr new) = ap (λ x. length x.returns) new ∙ map_length (return_of client) replies ∙ one

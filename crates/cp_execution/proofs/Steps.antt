@@ -1,6 +1,6 @@
 -- What holds of the world after each event.
-use Rattle.std.proofs.Common.{◌≡◌, ◌≤◌, ◌<◌, ◌⊎◌, inl, inr, ℕ, ◌+◌, List, [], ◌∷◌, ◌++◌, Some, refl, sym, ◌∙◌, ap, subst, arith, map, length}
-use Rattle.std.specs.Prelude.{Contains, slice_get}
+use Rattle.std.proofs.Common.{◌≡◌, ◌≤◌, ◌⊎◌, inl, inr, ℕ, ◌+◌, [], ◌∷◌, ◌++◌, refl, sym, ◌∙◌, ap, subst, arith, map, length}
+use Rattle.std.specs.Prelude.{Contains}
 use Rattle.std.proofs.lemmas.List.Elements.{Contains-append_cases, Contains-append_right}
 use Rattle.cp_base.specs.declared.identifier.ClientNo.{ClientNo}
 use Rattle.cp_base.specs.declared.identifier.ThreadNo.{ThreadNo}
@@ -12,9 +12,9 @@ use Rattle.cp_ops.specs.declared.user_op.UserOp.{UserOp}
 use Rattle.cp_ops.specs.Ops.{requested}
 use Rattle.cp_schedule.specs.declared.schedule.Event.{Event}
 use Rattle.cp_schedule.specs.declared.schedule.Event.TheVariants as event
-use Rattle.cp_execution.specs.Group.{GroupState, Reply, Applied, empty, apply}
+use Rattle.cp_execution.specs.Group.{Reply, Applied, empty, apply}
 use Rattle.cp_execution.specs.History.{Committed, Given, given_at, answers_of}
-use Rattle.cp_execution.specs.Execution.{Request, Ended, Return, Effects, Execution, World, next_event, ended_at, return_of, invocation_of, world_step}
+use Rattle.cp_execution.specs.Execution.{Request, Ended, Return, Effects, World, next_event, ended_at, return_of, invocation_of, world_step}
 use Rattle.cp_execution.specs.Headline.{IsAnswerOfHistory, IsCommittedAt, IsInRealTime, IsEndOfRequest, IsEntryOfRequest, IsRequestOfCall}
 use Rattle.cp_execution.proofs.Lists.{push_cases, pushed, still_there, mapped_from, mapped_there, get_left, get_last}
 use Rattle.cp_execution.proofs.Histories.{state_after, state_one_more, answers_one_more, answers_own_call}
@@ -140,14 +140,14 @@ module _ (w : World) (client : ClientNo) (thread : ThreadNo) (o : UserOp) (good 
 
   new_is_end : (reply : Reply) → Contains applied.replies reply → IsEndOfRequest next.so_far shown_now (return_of client reply)
   new_is_end reply here = (
-      end_of reply,
-      Contains-append_right w.so_far.ends (map (ended_at (next_event w)) applied.replies) (end_of reply) (mapped_there (ended_at (next_event w)) applied.replies reply here),
-      refl,
-      ap (λ c. c.client) (own reply here),
-      refl,
-      refl,
-      refl,
-    )
+    end_of reply,
+    Contains-append_right w.so_far.ends (map (ended_at (next_event w)) applied.replies) (end_of reply) (mapped_there (ended_at (next_event w)) applied.replies reply here),
+    refl,
+    ap (λ c. c.client) (own reply here),
+    refl,
+    refl,
+    refl,
+  )
 
   next_returns : (shown : Effects) (r : Return) → Contains next.so_far.effects shown → Contains shown.returns r → IsEndOfRequest next.so_far shown r
   next_returns shown r here told = at (push_cases w.so_far.effects shown_now shown here)
@@ -171,8 +171,10 @@ module _ (w : World) (client : ClientNo) (thread : ThreadNo) (o : UserOp) (good 
     where
       number_now : (c : Committed) (r : Op) → c.entry ≡ entry.Call k r → c ≡ mine → k.number ≡ w.number + 1
       number_now c r is same = ap (λ x. x.number) (ap call_of (sym is ∙ ap (λ x. x.entry) same))
+
       op_now : (c : Committed) (r : Op) → c.entry ≡ entry.Call k r → c ≡ mine → r ≡ requested o
       op_now c r is same = ap op_of (sym is ∙ ap (λ x. x.entry) same)
+
       at : Contains w.so_far.history a ⊎ (a ≡ mine) → Contains w.so_far.history b ⊎ (b ≡ mine) → p ≡ q
       at (inl old_a) (inl old_b) = good.one_op a b k p q old_a old_b is_a is_b
       at (inl old_a) (inr new_b) = let l = good.numbers a k p old_a is_a in let n = number_now b q is_b new_b in absurd (omega (arith, l, n))

@@ -7,7 +7,6 @@ use Rattle.cp_base.specs.Identifiers.{replay_id}
 use Rattle.cp_ops.specs.declared.op.Op.{Op}
 use Rattle.cp_ops.specs.declared.answer.Answer.{Answer}
 use Rattle.cp_ops.specs.declared.entry.Entry.TheVariants as entry
-use Rattle.cp_ops.specs.declared.user_op.UserOp.{UserOp}
 use Rattle.cp_ops.specs.Ops.{requested}
 use Rattle.cp_schedule.specs.declared.schedule.Event.{Event}
 use Rattle.cp_schedule.specs.declared.schedule.Event.TheVariants as event
