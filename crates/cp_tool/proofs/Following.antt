@@ -3,14 +3,11 @@ use Rattle.std.proofs.Common.{◌≡◌, ℕ, ◌+◌, List, [], ◌∷◌, ◌+
 use Rattle.std.specs.List.{flat_map}
 use Rattle.cp_base.specs.declared.identifier.ClientNo.{ClientNo}
 use Rattle.cp_base.specs.declared.identifier.ThreadNo.{ThreadNo}
-use Rattle.cp_ops.specs.declared.answer.Answer.{Answer}
-use Rattle.cp_ops.specs.declared.entry.Entry.{Entry}
 use Rattle.cp_ops.specs.declared.entry.Entry.TheVariants as entry
 use Rattle.cp_ops.specs.declared.user_op.UserOp.{UserOp}
 use Rattle.cp_ops.specs.Ops.{requested}
 use Rattle.cp_schedule.specs.declared.schedule.Event.{Event}
 use Rattle.cp_schedule.specs.declared.schedule.Event.TheVariants as event
-use Rattle.cp_atomic.specs.Longs.{Rows}
 use Rattle.cp_execution.specs.Group.{Applied, apply}
 use Rattle.cp_execution.specs.History.{Committed}
 use Rattle.cp_execution.specs.Execution.{World, Effects, Return, invocation_of, world_step, world_after, next_event, return_of, ended_at}

@@ -1,5 +1,5 @@
 -- The promises of `run`.
-use Rattle.std.specs.Prelude.{◌≡◌, ◌≤◌, ℕ, List, [], ◌∷◌, length, codes, Option}
+use Rattle.std.specs.Prelude.{◌≡◌, ℕ, List, [], ◌∷◌, codes, Option}
 use Rattle.std.specs.Io.KnownBytes.{Appends}
 use Rattle.cp_words.specs.Faults.{AppendsFront}
 use Rattle.cp_schedule.specs.declared.schedule.Schedule.{Schedule}

@@ -1,4 +1,4 @@
-use Rattle.std.proofs.Common.{◌≡◌, ◌+◌, ◌++◌, ◌∷◌, [], length, ◌∙◌, sym, ap, subst}
+use Rattle.std.proofs.Common.{◌+◌, ◌∙◌, sym, ap, subst}
 use Rattle.cp_execution.specs.Execution.{first}
 use Rattle.cp_tool.specs.Replays.{Follows}
 use Rattle.cp_tool.proofs.Following.{after_one_more, one_more}

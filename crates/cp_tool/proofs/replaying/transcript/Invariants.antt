@@ -1,4 +1,4 @@
-use Rattle.std.proofs.Common.{◌≡◌, ◌+◌, length}
+use Rattle.std.proofs.Common.{◌≡◌, length}
 use Rattle.cp_execution.specs.Execution.{first, world_after}
 use Rattle.cp_tool.specs.Replays.{Follows}
 use Rattle.cp_tool.proofs.replaying.transcript.Given as goal

@@ -1,4 +1,4 @@
-use Rattle.std.proofs.Common.{arith, length-take, length-drop, ◌≤◌, length, ℕ}
+use Rattle.std.proofs.Common.{arith, ◌≤◌, length}
 use Rattle.std.proofs.lemmas.Grind.{common_steps}
 use Rattle.cp_tool.proofs.Appending.{appends_more}
 use Rattle.cp_tool.proofs.writing.write_all.Goals as goal
