@@ -2,5 +2,7 @@
 #![tactic(auto)]
 
 mod longs;
+#[cfg(test)]
+mod tests;
 
 pub use longs::Longs;

@@ -17,9 +17,6 @@ pub struct Longs {
 
 impl Model for Longs {
     ghost use Rattle.std.specs.Prelude.{ℕ, ℤ, List};
-    ghost use Rattle.std.specs.BTreeMap.{IsOrdered};
-    ghost use Rattle.std.specs.Cmp.Lexicographic.{slice_cmp};
-    ghost use Rattle.std.specs.Ordering.{nat_cmp};
 
     ghost Value = { List (List ℕ × ℤ) };
 

@@ -1,5 +1,5 @@
 -- The texts of operations, answers and entries.
-use Rattle.std.specs.Prelude.{ℕ, List, [], ◌∷◌, ◌++◌, codes, slice_index}
+use Rattle.std.specs.Prelude.{ℕ, List, ◌∷◌, ◌++◌, codes, slice_index}
 use Rattle.std.specs.Fmt.{decimal, signed_decimal}
 use Rattle.cp_base.specs.declared.identifier.Invocation.{Invocation}
 use Rattle.cp_ops.specs.declared.op.LongOp.{LongOp}
@@ -26,9 +26,9 @@ op_text (op.Long name o) = codes "long " ++ name ++ 32 ∷ long_op_text o
 abbrev pub requested : UserOp → Op
 requested (user.Long name o) = op.Long name o
 
--- a user's operation on a long is written as the one that it requests
+-- `long NAME ..`: a user's operation on a long is written as the one that it requests
 abbrev pub user_op_text : UserOp → List ℕ
-user_op_text o = op_text (requested o)
+user_op_text (user.Long name o) = codes "long " ++ name ++ 32 ∷ long_op_text o
 
 -- `value V`
 abbrev pub answer_text : Answer → List ℕ
