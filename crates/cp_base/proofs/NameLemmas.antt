@@ -1,5 +1,5 @@
 -- Bytes with no fault are a name.
-use Rattle.std.proofs.Common.{◌≡◌, ◌<◌, ◌≤◌, ℕ, Bool, true, false, ◌&&◌, ◌==◌, not, [], ◌∷◌, List, length, Option, Some, None, position, refl, sym, ◌∙◌, arith}
+use Rattle.std.proofs.Common.{◌≡◌, ◌<◌, ◌≤◌, ℕ, Bool, true, false, ◌&&◌, not, [], ◌∷◌, List, length, Option, Some, None, position, refl, sym, ◌∙◌, arith}
 use Rattle.std.specs.List.{list_all, position_or_len}
 use Rattle.std.proofs.lemmas.Bool.Decides.{nat_tests}
 use Rattle.cp_base.specs.Names.{IsName, is_name_byte, name_fault, fault_at, length_fault}

@@ -1,6 +1,6 @@
 -- The lines of events.
-use Rattle.std.proofs.Common.{◌≡◌, ◌<◌, ℕ, Bool, true, false, not, ◌==◌, ◌&&◌, List, [], ◌∷◌, ◌++◌, refl, sym, ◌∙◌, ap, subst, arith}
-use Rattle.std.specs.Prelude.{IsTrue, ◌≢◌, codes, Some, None}
+use Rattle.std.proofs.Common.{◌≡◌, ℕ, Bool, true, false, not, ◌==◌, ◌&&◌, List, [], ◌∷◌, ◌++◌, refl, sym, ◌∙◌, ap, subst, arith}
+use Rattle.std.specs.Prelude.{◌≢◌, codes, Some, None}
 use Rattle.std.specs.List.{list_all}
 use Rattle.std.specs.Fmt.{decimal}
 use Rattle.std.proofs.lemmas.Fmt.{decimal_digit}
@@ -19,7 +19,7 @@ use Rattle.cp_schedule.proofs.Parting.{lacks_none_inside, parted_once, behind_on
 abbrev pub call_front : List ℕ
 call_front = codes "call 1 1 long "
 
-one : decimal 1 ≡ 49 ∷ []
+pub one : decimal 1 ≡ 49 ∷ []
 one = decimal_digit 1 (omega arith)
 
 -- a call on a long by client 1 and thread 1
@@ -34,12 +34,12 @@ event_shape (event.Call client thread (user.Long name o)) is =
 name_byte_no_space : (b : ℕ) → is_name_byte b ≡ true → not (b == 32) ≡ true
 name_byte_no_space b h = grind (arith, nat_tests)
 
-both : (a b : Bool) → a && b ≡ true → (a ≡ true) × (b ≡ true)
+pub both : (a b : Bool) → a && b ≡ true → (a ≡ true) × (b ≡ true)
 both true true h = (refl, refl)
 both true false h = absurd cc
 both false b h = absurd cc
 
-and : (a b : Bool) → a ≡ true → b ≡ true → a && b ≡ true
+pub and : (a b : Bool) → a ≡ true → b ≡ true → a && b ≡ true
 and a b p q = rw (p, q) refl
 
 all_no_space : (name : List ℕ) → list_all is_name_byte name ≡ true → Lacks 32 name
@@ -81,5 +81,5 @@ pub event_read : (text name back n : List ℕ) (o : LongOp) → text ≡ call_fr
 event_read text name back n o front is_name is_op =
     let named : IsName n = subst IsName (sym is_name.1) is_name.0 in
     let spelled : text ≡ event_text (event.Call (record { 0 = 1 }) (record { 0 = 1 }) (user.Long n o)) =
-        front ∙ ap (λ t. call_front ++ (name ++ 32 ∷ t)) is_op.1 ∙ ap (λ t. call_front ++ (t ++ 32 ∷ long_op_text o)) (sym is_name.1) ∙ sym (call_spelled n o) in
+    front ∙ ap (λ t. call_front ++ (name ++ 32 ∷ t)) is_op.1 ∙ ap (λ t. call_front ++ (t ++ 32 ∷ long_op_text o)) (sym is_name.1) ∙ sym (call_spelled n o) in
     ((refl, refl, (named, is_op.0)), spelled)

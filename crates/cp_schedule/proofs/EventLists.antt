@@ -1,6 +1,6 @@
 -- The events that were read so far.
-use Rattle.std.proofs.Common.{◌≡◌, ℕ, ◌+◌, ◌≤◌, List, [], ◌∷◌, ◌++◌, length, Some, refl, sym, ◌∙◌, ap, subst, append_assoc, length-append, arith}
-use Rattle.std.specs.List.{AllByRecursion, flat_map}
+use Rattle.std.proofs.Common.{◌≡◌, ℕ, ◌+◌, ◌≤◌, List, [], ◌∷◌, ◌++◌, length, Some, sym, ◌∙◌, ap, append_assoc, arith}
+use Rattle.std.specs.List.{AllByRecursion}
 use Rattle.cp_words.specs.Text.{line, Lacks}
 use Rattle.cp_schedule.specs.declared.schedule.Event.{Event}
 use Rattle.cp_schedule.specs.declared.reading.ScheduleError.{ScheduleError}

@@ -1,5 +1,5 @@
 -- Faults of a text, line by line.
-use Rattle.std.proofs.Common.{◌≡◌, ◌⊎◌, inl, inr, ℕ, ◌+◌, Bool, true, false, not, ◌==◌, cond, List, [], ◌∷◌, ◌++◌, refl, sym, ◌∙◌, ap, subst, arith, append_assoc}
+use Rattle.std.proofs.Common.{◌≡◌, inl, inr, ℕ, ◌+◌, Bool, true, false, ◌==◌, cond, List, [], ◌∷◌, ◌++◌, refl, sym, ◌∙◌, ap, subst, arith, append_assoc}
 use Rattle.std.specs.Prelude.{IsTrue, ◌≢◌, ◌↔◌, codes, Some, None, length}
 use Rattle.std.specs.List.{slice_split, onto_first}
 use Rattle.std.proofs.lemmas.Bool.Decides.{nat_tests}
@@ -10,10 +10,10 @@ use Rattle.cp_schedule.specs.declared.reading.ScheduleError.{ScheduleError}
 use Rattle.cp_schedule.specs.declared.reading.ScheduleError.TheVariants.{BadSchedule, NotBuilt, NoMemory}
 use Rattle.std.specs.Prelude.{Result, Ok, Err, IfErr}
 use Rattle.std.specs.Result.{IsErrAnd}
-use Rattle.cp_schedule.specs.Faults.{IsScheduleFault, Awaited, Header, Nothing, FaultsAt, FaultsAtEnd, FaultsIn, FaultsFrom, IsFaultFrom, SpellsEvent}
-use Rattle.cp_schedule.proofs.Parting.{lacks_head, lacks_tail}
+use Rattle.cp_schedule.specs.Faults.{IsScheduleFault, Awaited, Header, Nothing, FaultsAt, FaultsAtEnd, FaultsIn, FaultsFrom, IsFaultFrom}
+use Rattle.cp_schedule.proofs.Parting.{lacks_tail}
 
-abbrev lines_of : List ℕ → List (List ℕ)
+abbrev pub lines_of : List ℕ → List (List ℕ)
 lines_of bytes = slice_split (λ b. b == 10) bytes
 
 no_feed : (b : ℕ) (text : List ℕ) → Lacks 10 (b ∷ text) → (b == 10) ≡ false

@@ -1,3 +1,4 @@
 pub mod Schedules
 pub mod Reading
 pub mod Faults
+pub mod Laws

@@ -33,11 +33,7 @@ pub fn read_event(alloc: Global, text: &[u8]) -> Result<Option<Event>, NoMemory>
         return Ok(None);
     };
     match Name::read(alloc, name) {
-        Ok(name) => Ok(Some(Event::Call(
-            ClientNo(1),
-            ThreadNo(1),
-            UserOp::Long(name, op),
-        ))),
+        Ok(name) => Ok(Some(Event::Call(ClientNo(1), ThreadNo(1), UserOp::Long(name, op)))),
         Err(NameError::BadName(_)) => Ok(None),
         Err(NameError::NoMemory) => Err(NoMemory),
     }

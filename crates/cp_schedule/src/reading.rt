@@ -38,7 +38,11 @@ impl From<NoMemory> for ScheduleError {
 }
 
 /// What stands behind a line of the header.
-fn read_header_line<'a>(text: &'a [u8], wanted: &[u8], number: u64) -> Result<&'a [u8], ScheduleError>
+fn read_header_line<'a>(
+    text: &'a [u8],
+    wanted: &[u8],
+    number: u64,
+) -> Result<&'a [u8], ScheduleError>
     ensures rest { IfOk result (λ rest. text.now ≡ line wanted.now ++ rest.now) }
     ensures fault { IfErr result (λ error. (lines : List (List ℕ)) → IsFaultFrom (Header (wanted.now ∷ lines)) number text.now error) }
 {

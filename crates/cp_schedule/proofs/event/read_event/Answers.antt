@@ -1,4 +1,4 @@
-use Rattle.std.proofs.Common.{◌≡◌, ◌∷◌, ◌++◌, sym, ◌∙◌, ap, refl}
+use Rattle.std.proofs.Common.{◌++◌, ◌∙◌, ap}
 use Rattle.cp_schedule.proofs.EventLemmas.{call_front, no_event_front, no_event_space, no_event_op, no_event_name, event_read}
 use Rattle.cp_schedule.proofs.event.read_event.Goals as goal
 

@@ -15,4 +15,4 @@ returns-in_err-rest-3-clause-fault c = handed_up _ c.args.bytes.now c.in_err-res
 pub returns-in_err-rest-4-clause-fault : goal.returns-in_err-rest-4-clause-fault
 returns-in_err-rest-4-clause-fault c = handed_up _ c.args.bytes.now c.in_err-rest-4.field-0.0 c.from_residual-in_err-rest-4.ensures.1
     (behind_three c.args.bytes.now c.in_ok-rest.rest.now c.in_ok-rest-2.rest.now c.in_ok-rest-3.rest.now c.in_ok-rest.ensures.rest c.in_ok-rest-2.ensures.rest c.in_ok-rest-3.ensures.rest
-      c.in_err-rest-4.field-0.0 (c.in_err-rest-4.ensures.fault _))
+    c.in_err-rest-4.field-0.0 (c.in_err-rest-4.ensures.fault _))
