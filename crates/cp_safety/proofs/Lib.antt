@@ -1,0 +1,5 @@
+pub mod Lists
+pub mod Fits
+pub mod Messages
+pub mod Steps
+pub mod Executions
