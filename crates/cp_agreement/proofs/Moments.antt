@@ -1,13 +1,14 @@
 -- The four laws of agreement, over every list of steps that meets the facts.
 use Rattle.std.proofs.Common.{◌≡◌, ◌≢◌, ℕ, suc, ◌<◌, ◌≤◌, ◌⊎◌, inl, inr, ⊎_elim, true, List, [], ◌∷◌, ◌++◌, length, take, drop, refl, ap, sym, ◌∙◌, arith, subst, Contains, le_refl, true≢false, take-append-drop, take-take, lt_of_le_of_lt, le_of_lt}
 use Rattle.std.proofs.lemmas.Bool.{cases_lt}
+use Rattle.std.proofs.lemmas.List.{append_assoc, append-nil}
 use Rattle.cp_rules.specs.Entries.{Entry}
 use Rattle.cp_rules.specs.Configurations.{AreAdjacent, HasQuorum, configuration_after}
 use Rattle.cp_rules.specs.Logs.{HasTerm, IsPrefixOf}
 use Rattle.cp_rules.specs.Clusters.{Append, Appended, Message, Vote, Voted}
 use Rattle.cp_agreement.specs.WholeLogs.{Cluster, Facts, IsMoment, MeetsFacts, Member, Step, after_step, cluster_after, committed, opening}
 use Rattle.cp_agreement.proofs.Logs.{Share, share_sym, share_trans, share_less, reach_at, share_length, share_take}
-use Rattle.cp_agreement.proofs.Ghost.{Ghost, Committed, Sound, Invariant, ghost_after, ghost_of}
+use Rattle.cp_agreement.proofs.Ghost.{Ghost, Committed, Sound, Invariant, ghost_after, ghost_of, put_same, at_each}
 use Rattle.cp_agreement.proofs.Complete.{complete, complete_won, sound_matches}
 use Rattle.cp_agreement.proofs.Held.{held}
 use Rattle.cp_agreement.proofs.Grows.{next, sound_grows, committed_grows, leader_stays, won_held}
@@ -143,3 +144,70 @@ module _ (first : List ℕ) (steps : List Step) (meets : MeetsFacts first steps)
         (h.by.0, h.by.1, λ n chosen. share_take ((cluster_after steps).member n).log ((ghost_of steps).made x.term) (suc i) (h.by.2 n chosen) ∙ sym mine),
       ))
       (moment first steps meets v at_v m).commit
+
+-- One history
+
+prefix_trans : (a b c : List Entry) → IsPrefixOf a b → IsPrefixOf b c → IsPrefixOf a c
+prefix_trans a b c (p, e) (q, f) = (p ++ q, sym (append_assoc a p q) ∙ ap (λ l. l ++ q) e ∙ f)
+
+prefix_refl : (a : List Entry) → IsPrefixOf a a
+prefix_refl a = ([], append-nil a)
+
+last_moment : (steps : List Step) → IsMoment steps (cluster_after steps)
+last_moment [] = refl
+last_moment (s ∷ before) = inl refl
+
+-- A committed list of some member at some moment has all others as prefixes.
+record Longest (first : List ℕ) (steps : List Step) : Type 0 where
+  at : Cluster
+  is_moment : IsMoment steps at
+  of : ℕ
+  all : (v : Cluster) → IsMoment steps v → (m : ℕ) → IsPrefixOf (committed (v.member m)) (committed (at.member of))
+
+-- A list has all committed lists as prefixes after a step if it had them before and has the actor's.
+all_after : (s : Step) (before : List Step) (history : List Entry) → IsPrefixOf (committed s.after) history
+    → ((v : Cluster) → IsMoment before v → (m : ℕ) → IsPrefixOf (committed (v.member m)) history)
+    → (v : Cluster) → IsMoment (s ∷ before) v → (m : ℕ) → IsPrefixOf (committed (v.member m)) history
+all_after s before history own old v (inr at) = λ m. old v at m
+all_after s before history own old v (inl e) = λ m. subst (λ (x : Cluster). IsPrefixOf (committed (x.member m)) history) (sym e)
+    (at_each (λ n x. IsPrefixOf (committed x) history) (cluster_after before) s own (λ n ne. old (cluster_after before) (last_moment before) n) m)
+
+longest : (first : List ℕ) (steps : List Step) → MeetsFacts first steps → Longest first steps
+longest first [] meets = record {
+  at = opening;
+  is_moment = refl;
+  of = 0;
+  all = λ v at m. subst (λ (x : Cluster). IsPrefixOf (committed (x.member m)) []) (sym at) ([], refl);
+}
+longest first (s ∷ before) meets =
+    let h = longest first before meets.1 in
+    let now = cluster_after (s ∷ before) in
+    let own : now.member s.actor ≡ s.after = put_same (cluster_after before).member s.actor s.after s.actor refl in
+    ⊎_elim
+    (λ (up : IsPrefixOf (committed (h.at.member h.of)) (committed (now.member s.actor))). record {
+      at = now;
+      is_moment = inl refl;
+      of = s.actor;
+      all = all_after s before (committed (now.member s.actor)) (subst (λ x. IsPrefixOf (committed x) (committed (now.member s.actor))) own (prefix_refl (committed (now.member s.actor))))
+          (λ v at m. prefix_trans (committed (v.member m)) (committed (h.at.member h.of)) (committed (now.member s.actor)) (h.all v at m) up);
+    })
+    (λ (down : IsPrefixOf (committed (now.member s.actor)) (committed (h.at.member h.of))). record {
+      at = h.at;
+      is_moment = inr h.is_moment;
+      of = h.of;
+      all = all_after s before (committed (h.at.member h.of)) (subst (λ x. IsPrefixOf (committed x) (committed (h.at.member h.of))) own down) h.all;
+    })
+    (committed_prefixes first (s ∷ before) meets h.at now (inr h.is_moment) (inl refl) h.of s.actor)
+
+commit_within : (first : List ℕ) (steps : List Step) → MeetsFacts first steps → (v : Cluster) → IsMoment steps v → (m : ℕ) → (v.member m).commit ≤ length (v.member m).log
+commit_within first steps meets v at m =
+    let x = v.member m in
+    let g = ghost_of steps in
+    ⊎_elim
+    (λ (e : x.commit ≡ 0). omega (arith, e))
+    (λ (c : Committed first (cluster_after steps) g x.log x.commit x.term). share_length (g.made c.term) x.log x.commit (share_sym x.log (g.made c.term) x.commit c.same))
+    (moment first steps meets v at m).commit
+
+pub one_history : (first : List ℕ) (steps : List Step) → MeetsFacts first steps
+    → (history : List Entry) × ((v : Cluster) → IsMoment steps v → (m : ℕ) → IsPrefixOf (committed (v.member m)) history × ((v.member m).commit ≤ length (v.member m).log))
+one_history first steps meets = let h = longest first steps meets in (committed (h.at.member h.of), λ v at m. (h.all v at m, commit_within first steps meets v at m))

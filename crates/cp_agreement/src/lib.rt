@@ -1,7 +1,7 @@
 //! Agreement of one group of members on a log, over every execution, on whole logs. No code: the functions below state laws.
 #![tactic(auto)]
 
-ghost use Rattle.cp_agreement.specs.Laws.{OneLeader, EqualPrefixes, LaterLeaders, CommittedPrefixes, HeldAtEnd, QuorumsMeet};
+ghost use Rattle.cp_agreement.specs.Laws.{OneLeader, EqualPrefixes, LaterLeaders, CommittedPrefixes, OneHistory, HeldAtEnd, QuorumsMeet};
 
 /// No two members lead in one term.
 pub fn one_leader()
@@ -21,6 +21,11 @@ pub fn later_leaders()
 /// Of two committed lists one is a prefix of the other.
 pub fn committed_prefixes()
     ensures { CommittedPrefixes }
+{}
+
+/// There is one list of which each committed list is a prefix.
+pub fn one_history()
+    ensures { OneHistory }
 {}
 
 /// Each committed entry is held at the end by a quorum of the configuration in force for it, or of an adjacent one.

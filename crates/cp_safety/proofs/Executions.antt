@@ -5,12 +5,12 @@ use Rattle.cp_rules.specs.Entries.{Entry}
 use Rattle.cp_rules.specs.Logs.{HasTerm}
 use Rattle.cp_rules.specs.Clusters.{Append, Cluster, Member, Message, Snapshot, Step, Vote, after_step, cluster_after, put}
 use Rattle.cp_rules.specs.Facts.{KnowsTerm, MeetsFacts, before}
-use Rattle.cp_safety.specs.Standing.{StandsFor, StandsThrough}
+use Rattle.cp_safety.specs.Standing.{StandsFor, StandsForLog, StandsThrough}
 use Rattle.cp_agreement.specs.WholeLogs as whole
 use Rattle.cp_agreement.proofs.Ghost.{Ghost, Invariant, Sound, ghost_of}
 use Rattle.cp_agreement.proofs.Moments.{invariant}
 use Rattle.cp_agreement.proofs.Grows.{leader_in, leader_stays}
-use Rattle.cp_safety.proofs.Fits.{Fit, knows_has}
+use Rattle.cp_safety.proofs.Fits.{knows_has}
 use Rattle.cp_safety.proofs.Messages.{Heard, receive, stand, standing, to_whole}
 use Rattle.cp_safety.proofs.Steps.{next_fit, next_heard, next_stand, outcome, step_facts, whole_step}
 
@@ -21,12 +21,12 @@ record Beside (first : List ℕ) (steps : List Step) : Type 0 where
   logs : ℕ → List Entry
   sent : List Message
   is : whole.cluster_after plain ≡ stand (cluster_after first steps) logs sent
-  fit : (m : ℕ) → Fit first ((cluster_after first steps).member m) (logs m)
+  fit : (m : ℕ) → StandsForLog first ((cluster_after first steps).member m) (logs m)
   heard : Heard first (cluster_after first steps) sent
   through : StandsThrough first steps plain
 
-stands_for : (first : List ℕ) (b : Member) (l : List Entry) → Fit first b l → StandsFor first b (standing b l)
-stands_for first b l f = record { term = refl; commit = refl; leader = refl; log = record { fits = f.fits; rest = f.log; base_term = f.base_term; base_members = f.members } }
+stands_for : (first : List ℕ) (b : Member) (l : List Entry) → StandsForLog first b l → StandsFor first b (standing b l)
+stands_for first b l f = record { term = refl; commit = refl; leader = refl; log = f }
 
 beside : (first : List ℕ) (steps : List Step) → MeetsFacts first steps → Beside first steps
 beside first [] meets = record {

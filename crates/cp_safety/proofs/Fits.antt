@@ -7,18 +7,11 @@ use Rattle.cp_rules.specs.Configurations.{configuration_after}
 use Rattle.cp_rules.specs.Logs.{EndsAt, HasTerm, HasTerms}
 use Rattle.cp_rules.specs.Clusters.{Member}
 use Rattle.cp_rules.specs.Facts.{KnowsTerm, LogEndsAt, configuration_of}
+use Rattle.cp_safety.specs.Standing.{StandsForLog}
 use Rattle.cp_agreement.proofs.Logs.{Share, get-append_left, get-drop, get-take, has_place}
 use Rattle.cp_safety.proofs.Lists.{configuration_after-append, has_term_same}
 
--- the logs log that a member's snapshot and log stand for
-pub record Fit (first : List ℕ) (b : Member) (l : List Entry) : Type 0 where
-  pub fits : b.base ≤ length l
-  pub log : b.log ≡ drop b.base l
-  pub base_term : HasTerm l b.base b.base_term
-  pub members : b.base_members ≡ configuration_after first (take b.base l)
-  pub above : b.base ≤ b.commit
-
-module _ (first : List ℕ) (b : Member) (l : List Entry) (fit : Fit first b l) where
+module _ (first : List ℕ) (b : Member) (l : List Entry) (fit : StandsForLog first b l) where
   pub at_log : (k : ℕ) → slice_get b.log k ≡ slice_get l (b.base + k)
   at_log k = ap (λ r. slice_get r k) fit.log ∙ get-drop l b.base k
 

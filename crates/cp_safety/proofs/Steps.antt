@@ -9,23 +9,24 @@ use Rattle.cp_rules.specs.Configurations.{AreOneApart, configuration_after}
 use Rattle.cp_rules.specs.Logs.{HasTerm, HasTerms}
 use Rattle.cp_rules.specs.Clusters.{Append, Appended, Cluster, Done, Message, Snapshot, Step, Vote, Voted, after_step, put}
 use Rattle.cp_rules.specs.Facts.{Acknowledges, ChangesAreSingle, EntriesCreated, Facts, Finishes, FollowerCommits, FollowsAbove, FollowsBelow, GotAppend, InstallsSnapshot, KeepsLog, LeaderCommits, SameBase, TakesSnapshot, WinsElection}
+use Rattle.cp_safety.specs.Standing.{StandsForLog}
 use Rattle.cp_agreement.specs.WholeLogs as whole
 use Rattle.cp_agreement.proofs.Logs.{Share, get-drop, get-take, has_place, reach, reach_at, share_at, share_length, share_less, share_refl, share_sym, share_take, share_trans}
 use Rattle.cp_agreement.proofs.Ghost.{Committed, Ghost, Invariant, put_other, put_same}
 use Rattle.cp_agreement.proofs.Complete.{complete, sound_matches}
 use Rattle.cp_safety.proofs.Lists.{configuration_after-append, contains_map, drop-append_left, drop-drop_add, drop-take_add, drop_all, has_term_shared, has_term_within, take-add_drop}
-use Rattle.cp_safety.proofs.Fits.{Difference, Fit, at_log, ends_has, first_difference, has_knows, keep_front, keep_push, knows_has, members_is, whole_length}
+use Rattle.cp_safety.proofs.Fits.{Difference, at_log, ends_has, first_difference, has_knows, keep_front, keep_push, knows_has, members_is, whole_length}
 use Rattle.cp_safety.proofs.Messages.{AsItIs, Carries, ForDone, ForSnapshot, Heard, Received, Stands, same_message, stand, standing, to_whole, what_stands}
 
 module _ (first : List ℕ) (w : Cluster) (logs : ℕ → List Entry) (sent : List Message) (g : Ghost) (s : Step)
-    (inv : Invariant first (stand w logs sent) g) (heard : Heard first w sent) (fit : (m : ℕ) → Fit first (w.member m) (logs m)) (r : Received first sent s.got) (facts : Facts w s) where
+    (inv : Invariant first (stand w logs sent) g) (heard : Heard first w sent) (fit : (m : ℕ) → StandsForLog first (w.member m) (logs m)) (r : Received first sent s.got) (facts : Facts w s) where
   -- the step on logs logs, where it leaves the logs log l
   abbrev pub whole_step : List Entry → whole.Step
   whole_step l = record { actor = s.actor; got = r.got; leads = s.leads; after = standing s.after l; sends = map (to_whole l s.after.commit) s.sends }
 
   pub record Outcome : Type 0 where
     pub log : List Entry
-    pub fits : Fit first s.after log
+    fits : StandsForLog first s.after log
     pub change : (log ≡ logs s.actor) ⊎ (whole.EntriesCreated first (stand w logs sent) (whole_step log) ⊎ whole.FollowsLeader (stand w logs sent) (whole_step log))
     pub below : ((s.after.base ≤ (w.member s.actor).commit) × Share s.after.base log (logs s.actor) × ((f t i it : ℕ) (ms : List ℕ) → s.got ≡ Some (Snapshot f t i it ms) → Share (w.member s.actor).commit log (logs s.actor)))
         ⊎ (InstallsSnapshot w s × Share s.after.base log (g.made s.after.term))
@@ -53,7 +54,7 @@ module _ (first : List ℕ) (w : Cluster) (logs : ℕ → List Entry) (sent : Li
   no_snapshot c n l f t i it ms e = absurd (let h = c.got in cc)
 
   -- a logs log with the same base
-  same_fit : (l : List Entry) → SameBase s.after (w.member s.actor) → s.after.log ≡ drop (w.member s.actor).base l → Share (w.member s.actor).base l (logs s.actor) → Fit first s.after l
+  same_fit : (l : List Entry) → SameBase s.after (w.member s.actor) → s.after.log ≡ drop (w.member s.actor).base l → Share (w.member s.actor).base l (logs s.actor) → StandsForLog first s.after l
   same_fit l (eb, et, em) log both =
       let old = fit s.actor in
       let back = share_sym l (logs s.actor) (w.member s.actor).base both in
@@ -224,7 +225,7 @@ module _ (first : List ℕ) (w : Cluster) (logs : ℕ → List Entry) (sent : Li
         below = inr (n, both);
       })
       (λ x.
-      let fits : Fit first s.after c.entries = record {
+      let fits : StandsForLog first s.after c.entries = record {
         fits = le_of_eq (sym c.long);
         log = x.1 ∙ sym (drop_all s.after.base c.entries (le_of_eq c.long));
         base_term = c.has;
@@ -463,10 +464,10 @@ module _ (first : List ℕ) (w : Cluster) (logs : ℕ → List Entry) (sent : Li
     abbrev next_sent : List Message
     next_sent = sent ++ map (to_whole o.log s.after.commit) s.sends
 
-    pub next_fit : (m : ℕ) → Fit first ((after_step w s).member m) (next_whole m)
+    pub next_fit : (m : ℕ) → StandsForLog first ((after_step w s).member m) (next_whole m)
     next_fit m = ⊎_elim
-        (λ (e : m ≡ s.actor). subst (λ b. Fit first b (next_whole m)) (sym (put_same w.member s.actor s.after m e)) (subst (Fit first s.after) (sym (put_same logs s.actor o.log m e)) o.fits))
-        (λ ne. subst (λ b. Fit first b (next_whole m)) (sym (put_other w.member s.actor s.after m ne)) (subst (Fit first (w.member m)) (sym (put_other logs s.actor o.log m ne)) (fit m)))
+        (λ (e : m ≡ s.actor). subst (λ b. StandsForLog first b (next_whole m)) (sym (put_same w.member s.actor s.after m e)) (subst (StandsForLog first s.after) (sym (put_same logs s.actor o.log m e)) o.fits))
+        (λ ne. subst (λ b. StandsForLog first b (next_whole m)) (sym (put_other w.member s.actor s.after m ne)) (subst (StandsForLog first (w.member m)) (sym (put_other logs s.actor o.log m ne)) (fit m)))
         (cases_eq m s.actor)
 
     pub next_heard : Heard first (after_step w s) next_sent

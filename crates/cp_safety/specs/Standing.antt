@@ -6,13 +6,14 @@ use Rattle.cp_rules.specs.Logs.{HasTerm}
 use Rattle.cp_rules.specs.Clusters.{Member, Step, cluster_after}
 use Rattle.cp_agreement.specs.WholeLogs as whole
 
--- The whole log that a member stands for: what the member keeps of it is what follows the base, and with the base stand the term and
--- the configuration that this log has there.
-pub record StandsForLog (first : List ℕ) (m : Member) (log : List Entry) : Type 0 where
-  pub fits : m.base ≤ length log
-  pub rest : m.log ≡ drop m.base log
-  pub base_term : HasTerm log m.base m.base_term
-  pub base_members : m.base_members ≡ configuration_at first log m.base
+-- The whole log that a member stands for: what the member keeps of it is what follows the base, with the base stand the term and the
+-- configuration that this log has there, and what the base covers is committed.
+pub record StandsForLog (first : List ℕ) (m : Member) (whole_log : List Entry) : Type 0 where
+  pub fits : m.base ≤ length whole_log
+  pub log : m.log ≡ drop m.base whole_log
+  pub base_term : HasTerm whole_log m.base m.base_term
+  pub members : m.base_members ≡ configuration_at first whole_log m.base
+  pub above : m.base ≤ m.commit
 
 pub record StandsFor (first : List ℕ) (m : Member) (x : whole.Member) : Type 0 where
   pub term : x.term ≡ m.term
