@@ -3,3 +3,4 @@ pub mod Fits
 pub mod Messages
 pub mod Steps
 pub mod Executions
+pub mod Laws
