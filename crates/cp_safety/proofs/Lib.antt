@@ -4,3 +4,4 @@ pub mod Messages
 pub mod Steps
 pub mod Executions
 pub mod Laws
+pub mod Tracking

@@ -7,6 +7,7 @@ use Rattle.cp_rules.specs.Clusters.{Member, Cluster, Step, IsMoment, cluster_aft
 use Rattle.cp_rules.specs.Facts.{KnowsTerm, MeetsFacts}
 use Rattle.cp_agreement.specs.WholeLogs as whole
 use Rattle.cp_safety.specs.Standing.{StandsThrough}
+use Rattle.cp_safety.specs.Tracking.{TrackedStep, MeetsTrackedFacts, untracked_steps, untracked_cluster, tracked_after}
 
 -- P holds of any two members at any two moments of any execution that meets the facts.
 abbrev pub AtAnyTwoMoments : (Member → ℕ → Member → ℕ → Type 0) → Type 0
@@ -67,3 +68,8 @@ WholeLogs = (first : List ℕ) (steps : List Step) → MeetsFacts first steps �
 -- A quorum of a configuration and a quorum of it or of an adjacent one have a common member.
 abbrev pub NeighboursMeet : Type 0
 NeighboursMeet = (a b : List ℕ) (p q : ℕ → Bool) → AreAdjacent a b → IsQuorum a p → IsQuorum b q → (m : ℕ) × (p m ≡ true) × (q m ≡ true)
+
+-- Members that count votes and matched indexes as the rules of one member say meet the facts.
+abbrev pub TrackedExecutions : Type 0
+TrackedExecutions = (first : List ℕ) (steps : List TrackedStep) → MeetsTrackedFacts first steps
+    → MeetsFacts first (untracked_steps steps) × (untracked_cluster (tracked_after first steps) ≡ cluster_after first (untracked_steps steps))

@@ -1,2 +1,3 @@
 pub mod Standing
+pub mod Tracking
 pub mod Laws

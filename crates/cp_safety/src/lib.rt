@@ -2,7 +2,7 @@
 //! one at a time, with snapshots, crashes and restarts. No code: the functions below state laws.
 #![tactic(auto)]
 
-ghost use Rattle.cp_safety.specs.Laws.{OneOffice, EqualPrefixes, LaterOffices, CommittedPrefixes, WholeLogs, NeighboursMeet, HeldAtEnd};
+ghost use Rattle.cp_safety.specs.Laws.{OneOffice, EqualPrefixes, LaterOffices, CommittedPrefixes, WholeLogs, NeighboursMeet, HeldAtEnd, TrackedExecutions};
 
 /// No two members lead in one term.
 pub fn one_office()
@@ -37,4 +37,9 @@ pub fn neighbours_meet()
 /// Each committed index is held at the end by a quorum of the configuration in force for it, or of an adjacent one.
 pub fn held_at_end()
     ensures { HeldAtEnd }
+{}
+
+/// Members that count votes and matched indexes as the rules of one member say meet the facts.
+pub fn tracked_executions()
+    ensures { TrackedExecutions }
 {}
