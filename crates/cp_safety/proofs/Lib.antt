@@ -5,3 +5,4 @@ pub mod Steps
 pub mod Executions
 pub mod Laws
 pub mod Tracking
+pub mod Examples

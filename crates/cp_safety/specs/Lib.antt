@@ -1,3 +1,4 @@
 pub mod Standing
 pub mod Tracking
 pub mod Laws
+pub mod Examples

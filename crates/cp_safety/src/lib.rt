@@ -2,6 +2,10 @@
 //! one at a time, with snapshots, crashes and restarts. No code: the functions below state laws.
 #![tactic(auto)]
 
+ghost use Rattle.std.specs.Prelude.{◌≡◌, true};
+ghost use Rattle.cp_rules.specs.Clusters.{cluster_after};
+ghost use Rattle.cp_rules.specs.Facts.{MeetsFacts};
+ghost use Rattle.cp_safety.specs.Examples.{three, alone, elects_and_commits, votes_twice, stands_late, MeetsAllButVotes, MeetsWithAnyLog};
 ghost use Rattle.cp_safety.specs.Laws.{OneOffice, EqualPrefixes, LaterOffices, CommittedPrefixes, WholeLogs, NeighboursMeet, HeldAtEnd, TrackedExecutions};
 
 /// No two members lead in one term.
@@ -42,4 +46,27 @@ pub fn held_at_end()
 /// Members that count votes and matched indexes as the rules of one member say meet the facts.
 pub fn tracked_executions()
     ensures { TrackedExecutions }
+{}
+
+/// The facts can be met: an execution in full, with an election and a commit.
+pub fn elects_and_commits()
+    ensures meets { MeetsFacts three elects_and_commits }
+    ensures commits { ((cluster_after three elects_and_commits).member 1).commit ≡ 1 }
+{}
+
+/// An execution in full that breaks only "votes are durable and up to date" has two leaders in one term.
+pub fn votes_twice()
+    ensures meets { MeetsAllButVotes three votes_twice }
+    ensures one { ((cluster_after three votes_twice).member 1).is_leader ≡ true }
+    ensures two { ((cluster_after three votes_twice).member 2).is_leader ≡ true }
+    ensures same { ((cluster_after three votes_twice).member 1).term ≡ ((cluster_after three votes_twice).member 2).term }
+{}
+
+/// Were candidates to win with any log, not with the one that their requests for votes spelled, an execution in full has two leaders in
+/// one term.
+pub fn stands_late()
+    ensures meets { MeetsWithAnyLog alone stands_late }
+    ensures one { ((cluster_after alone stands_late).member 1).is_leader ≡ true }
+    ensures two { ((cluster_after alone stands_late).member 2).is_leader ≡ true }
+    ensures same { ((cluster_after alone stands_late).member 1).term ≡ ((cluster_after alone stands_late).member 2).term }
 {}
