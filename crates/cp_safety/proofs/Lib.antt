@@ -5,4 +5,5 @@ pub mod Steps
 pub mod Executions
 pub mod Laws
 pub mod Tracking
+pub mod Chunks
 pub mod Examples

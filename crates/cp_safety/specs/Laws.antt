@@ -1,5 +1,5 @@
 -- The laws of agreement. They speak of any two states v and w that an execution had, in either order, and of any two members in them.
-use Rattle.std.specs.Prelude.{◌≡◌, ◌+◌, ◌-◌, ◌<◌, ◌≤◌, ◌⊎◌, true, ℕ, suc, Bool, List, length, take, drop, Some, slice_get}
+use Rattle.std.specs.Prelude.{◌≡◌, ◌∷◌, ◌+◌, ◌-◌, ◌<◌, ◌≤◌, ◌⊎◌, true, ℕ, suc, Bool, List, length, take, drop, Some, slice_get}
 use Rattle.cp_rules.specs.Entries.{Entry}
 use Rattle.cp_rules.specs.Configurations.{configuration_at, HasQuorum, IsQuorum, AreAdjacent}
 use Rattle.cp_rules.specs.Logs.{HasTerm}
@@ -7,6 +7,7 @@ use Rattle.cp_rules.specs.Clusters.{Member, Cluster, Step, IsMoment, cluster_aft
 use Rattle.cp_rules.specs.Facts.{KnowsTerm, MeetsFacts}
 use Rattle.cp_agreement.specs.WholeLogs as whole
 use Rattle.cp_safety.specs.Standing.{StandsThrough}
+use Rattle.cp_safety.specs.Chunks.{SnapshotReader, ChunkedStep, MeetsChunkedFacts, chunked_after, Joins, HadSnapshot}
 use Rattle.cp_safety.specs.Tracking.{TrackedStep, MeetsTrackedFacts, untracked_steps, untracked_cluster, tracked_after}
 
 -- P holds of any two members at any two moments of any execution that meets the facts.
@@ -73,3 +74,14 @@ NeighboursMeet = (a b : List ℕ) (p q : ℕ → Bool) → AreAdjacent a b → I
 abbrev pub TrackedExecutions : Type 0
 TrackedExecutions = (first : List ℕ) (steps : List TrackedStep) → MeetsTrackedFacts first steps
     → MeetsFacts first (untracked_steps steps) × (untracked_cluster (tracked_after first steps) ≡ cluster_after first (untracked_steps steps))
+
+-- Members that send snapshots in chunks meet the facts, and are such tracked members at the end.
+abbrev pub ChunkedExecutions : Type 0
+ChunkedExecutions = (reader : SnapshotReader) (first : List ℕ) (steps : List ChunkedStep) → MeetsChunkedFacts reader first steps
+    → (tracked : List TrackedStep) × MeetsTrackedFacts first tracked
+        × ((m : ℕ) → (tracked_after first tracked).member m ≡ ((chunked_after first steps).member m).tracked)
+
+-- What a step joins from a last chunk is a snapshot of that index that the chunk's sender had.
+abbrev pub ChunksJoin : Type 0
+ChunksJoin = (reader : SnapshotReader) (first : List ℕ) (s : ChunkedStep) (steps : List ChunkedStep) → MeetsChunkedFacts reader first (s ∷ steps)
+    → (t i : ℕ) (joined : List ℕ) (j : Joins (chunked_after first steps) s t i true joined) → HadSnapshot first steps j.sender i joined

@@ -6,7 +6,7 @@ ghost use Rattle.std.specs.Prelude.{◌≡◌, true};
 ghost use Rattle.cp_rules.specs.Clusters.{cluster_after};
 ghost use Rattle.cp_rules.specs.Facts.{MeetsFacts};
 ghost use Rattle.cp_safety.specs.Examples.{three, alone, elects_and_commits, votes_twice, stands_late, MeetsAllButVotes, MeetsWithAnyLog};
-ghost use Rattle.cp_safety.specs.Laws.{OneOffice, EqualPrefixes, LaterOffices, CommittedPrefixes, WholeLogs, NeighboursMeet, HeldAtEnd, TrackedExecutions};
+ghost use Rattle.cp_safety.specs.Laws.{OneOffice, EqualPrefixes, LaterOffices, CommittedPrefixes, WholeLogs, NeighboursMeet, HeldAtEnd, TrackedExecutions, ChunkedExecutions, ChunksJoin};
 
 /// No two members lead in one term.
 pub fn one_office()
@@ -46,6 +46,16 @@ pub fn held_at_end()
 /// Members that count votes and matched indexes as the rules of one member say meet the facts.
 pub fn tracked_executions()
     ensures { TrackedExecutions }
+{}
+
+/// Members that send snapshots in chunks meet the facts.
+pub fn chunked_executions()
+    ensures { ChunkedExecutions }
+{}
+
+/// What a member joins from chunks of one term and index is a snapshot that the sender had.
+pub fn chunks_join()
+    ensures { ChunksJoin }
 {}
 
 /// The facts can be met: an execution in full, with an election and a commit.
