@@ -1,4 +1,4 @@
--- What stands in a state that meets the invariant: a chosen entry stands in each log that can take a later leading.
+-- Leader completeness in one state that meets the invariant: a chosen entry stands in each log that can win a later election.
 use Rattle.cp_rules.specs.Entries.{Entry, members_in}
 use Rattle.cp_rules.specs.Configurations.{AreAdjacent, AreOneApart, configuration_after}
 use Rattle.cp_rules.specs.Logs.{HasTerm, IsUpToDate}
@@ -11,9 +11,11 @@ use Rattle.cp_agreement.proofs.Configurations.{QuietFrom, LastChange, last_chang
 use Rattle.cp_agreement.proofs.Quorums.{quorum_members_meet}
 use Rattle.cp_agreement.proofs.Ghost.{Ghost, Backs, Clash, EndsPast, Chosen, Sound, Invariant, Prepared, Election}
 
+-- Two sound logs match.
 pub sound_matches : (g : Ghost) (l m : List Entry) (u v : ℕ) → Sound g l u → Sound g m v → Matches l m
 sound_matches g l m u v sl sm k e f is js same = share_trans l (g.made e.term) m (suc k) (sl.rooted k e is) (share_sym m (g.made e.term) (suc k) (subst (λ (x : ℕ). Share (suc k) m (g.made x)) (sym same) (sm.rooted k f js)))
 
+-- A front of a sound log is sound.
 pub sound_front : (g : Ghost) (l m : List Entry) (u : ℕ) → Share (length l) l m → Sound g m u → Sound g l u
 sound_front g l m u front sound =
     let there : (k : ℕ) (e : Entry) → slice_get l k ≡ Some e → slice_get m k ≡ Some e = λ k e is. share_at l m (length l) k e front (slice_get_within l k e is) is in
@@ -22,19 +24,21 @@ sound_front g l m u front sound =
       rooted = λ k e is. share_trans l m (g.made e.term) (suc k) (share_less l m (suc k) (length l) (slice_get_within l k e is) front) (sound.rooted k e (there k e is));
     }
 
+-- Adjacent both ways.
 flip : (a b : List ℕ) → AreAdjacent a b → AreAdjacent b a
 flip a b (inl e) = inl (sym e)
 flip a b (inr (inl h)) = inr (inr h)
 flip a b (inr (inr h)) = inr (inl h)
 
 module _ (first : List ℕ) (w : Cluster) (g : Ghost) (inv : Invariant first w g) where
-  -- a log's last members entry, and the entry that was chosen before that was made
+  -- a log's last members entry, and the entry that was chosen before that one was created
   pub record Prep (x : List Entry) : Type 0 where
     pub last : LastChange first x
     pub made : Share (suc last.place) x (g.made last.entry.term)
     pub prep : Prepared first w g last.entry.term last.place last.members
     pub less : prep.place < last.place
 
+  -- A sound log has no members entry, or its last one was prepared.
   pub prepare : (x : List Entry) (u : ℕ) → Sound g x u → QuietFrom x 0 ⊎ Prep x
   prepare x u sound = ⊎_elim inl
       (λ (l : LastChange first x).
@@ -43,16 +47,16 @@ module _ (first : List ℕ) (w : Cluster) (g : Ghost) (inv : Invariant first w g
       inr (record { last = l; made = root; prep = p; less = omega (arith, p.chosen.covers, p.before) }))
       (last_change first x)
 
-  -- the other log has the entry that was chosen before this log's last members entry was made
+  -- the log y has the entry that was chosen before the last members entry of x was created
   record CoversChange (x y : List Entry) : Type 0 where
     prep : Prep x
     both : Share (suc prep.prep.place) x y
 
-  -- that entry, in the log
+  -- that entry stands in x itself
   chosen_there : (x : List Entry) (p : Prep x) → slice_get x p.prep.place ≡ Some p.prep.chosen.entry
   chosen_there x p = share_at (g.made p.last.entry.term) x (suc p.last.place) p.prep.place p.prep.chosen.entry (share_sym x (g.made p.last.entry.term) (suc p.last.place) p.made) (omega (arith, p.less)) p.prep.chosen.there
 
-  -- the other log has no members entry after it
+  -- Where y has no members entry after it, the configurations of y and x are one apart.
   absorbed : (x y : List Entry) (s : CoversChange x y) → QuietFrom y (suc s.prep.prep.place) → AreAdjacent (configuration_after first y) (configuration_after first x)
   absorbed x y s ends =
       let p = s.prep in let c = p.prep.chosen in
@@ -64,7 +68,7 @@ module _ (first : List ℕ) (w : Cluster) (g : Ghost) (inv : Invariant first w g
       p.prep.quiet k e le (omega (arith, within, p.prep.before)) (share_at c.till (g.made p.last.entry.term) (length c.till) k e c.front within is)) in
       inr (subst₂ AreOneApart (sym same) (sym p.last.members_are) p.prep.one_apart)
 
-  -- the last members entries of both lie past what was chosen before the other's
+  -- Where the last members entries of both lie past what was chosen before the other's, they are one entry.
   apart : (x y : List Entry) (sx : CoversChange x y) (sy : CoversChange y x) → sy.prep.prep.place < sx.prep.last.place → sx.prep.prep.place < sy.prep.last.place → configuration_after first x ≡ configuration_after first y
   apart x y sx sy jx iy =
       let px = sx.prep in let py = sy.prep in
@@ -85,6 +89,7 @@ module _ (first : List ℕ) (w : Cluster) (g : Ghost) (inv : Invariant first w g
       (λ (h : ly.place < lx.place). absurd (let n = px.prep.quiet ly.place ly.entry iy h (ap (λ u. slice_get (g.made u) ly.place) same ∙ my) in let s = ly.is in cc)))
       (cases_order lx.place ly.place)
 
+  -- Two logs, each with what was chosen before the other's last members entry, have adjacent configurations.
   adjacent : (x y : List Entry) → QuietFrom x 0 ⊎ CoversChange x y → QuietFrom y 0 ⊎ CoversChange y x → AreAdjacent (configuration_after first x) (configuration_after first y)
   adjacent x y (inl ex) (inl ey) = inl (no_change first x ex ∙ sym (no_change first y ey))
   adjacent x y (inl ex) (inr sy) = absorbed y x sy (λ k e le is. ex k e (omega arith) is)
@@ -97,11 +102,13 @@ module _ (first : List ℕ) (w : Cluster) (g : Ghost) (inv : Invariant first w g
       (λ (h : sx.prep.last.place ≤ sy.prep.prep.place). absorbed y x sy (λ k e le is. sx.prep.last.ends k e (omega (arith, h, le)) is))
       (cases_lt sy.prep.prep.place sx.prep.last.place)
 
+  -- Leaders that share a front do not clash in it.
   pub no_clash : (t k u : ℕ) (c : Clash g t k u) → Share (suc k) (g.made t) (g.made c.by) → ⊥
   no_clash t k u c both =
       let (j, l, e, f, he, hf, ne) = c.differ in
       ne (ap (λ x. x.term) (same_Some e f (sym he ∙ share_at (g.made t) (g.made c.by) (suc k) j f both (omega arith) hf)))
 
+  -- A leader's log, as it was when it won, could win.
   leader_election : (t' : ℕ) → g.leader t' ≢ 0 → Election first w g t' t' (g.won t')
   leader_election t' holds = let q = inv.elected t' holds in record {
     sound = sound_front g (g.won t') (g.made t') t' (inv.won t') (inv.made t');
@@ -109,10 +116,11 @@ module _ (first : List ℕ) (w : Cluster) (g : Ghost) (inv : Invariant first w g
     quorum = (q.0, q.1, λ v chosen. (q.2 v chosen).1);
   }
 
+  -- What the leader had when it won, it has.
   from_won : (t k t' : ℕ) → Share (suc k) (g.made t) (g.won t') → Share (suc k) (g.made t) (g.made t')
   from_won t k t' both = share_trans (g.made t) (g.won t') (g.made t') (suc k) both (share_less (g.won t') (g.made t') (suc k) (length (g.won t')) (share_length (g.made t) (g.won t') (suc k) both) (inv.won t'))
 
-  -- an leading's own entry stands behind the log with which it was won
+  -- An entry of the leader's own term stands behind the log with which it won.
   own_past : (t k : ℕ) (e : Entry) → slice_get (g.made t) k ≡ Some e → e.term ≡ t → length (g.won t) ≤ k
   own_past t k e is own = ⊎_elim
       (λ (low : k < length (g.won t)). absurd (omega (arith, inv.won_below t k e (share_at (g.made t) (g.won t) (length (g.won t)) k e (share_sym (g.won t) (g.made t) (length (g.won t)) (inv.won t)) low is), own)))
@@ -121,13 +129,14 @@ module _ (first : List ℕ) (w : Cluster) (g : Ghost) (inv : Invariant first w g
 
   module _ (t' bound : ℕ) (fits : t' ≤ bound) (x : List Entry) (el : Election first w g t' bound x)
       (before : (u : ℕ) → u < bound → g.leader u ≢ 0 → (t k : ℕ) → Chosen first w g t k → t < u → Share (suc k) (g.made t) (g.won u)) where
+    -- Every leader between has the chosen entry.
     between : (t k : ℕ) → Chosen first w g t k → (u : ℕ) → g.leader u ≢ 0 → t ≤ u → u < bound → Share (suc k) (g.made t) (g.made u)
     between t k c u leader le less = ⊎_elim
         (λ e. subst (λ z. Share (suc k) (g.made t) (g.made z)) e (share_refl (g.made t) (suc k) (slice_get_within (g.made t) k c.entry c.there)))
         (λ ne. from_won t k u (before u less leader t k c (omega (arith, ne))))
         (cases_eq t u)
 
-    -- a log that isn't below the chosen entry has it
+    -- A log whose end is not below the chosen entry has it.
     past_has : (t k : ℕ) → (c : Chosen first w g t k) → t < t' → (lt n : ℕ) → n ≡ length x → HasTerm x n lt → IsUpToDate lt n t (suc k) → Share (suc k) (g.made t) x
     past_has t k c less lt zero len ends past = absurd (⊎_elim (λ h. omega (arith, h, ends)) (λ h. omega (arith, h.1)) past)
     past_has t k c less lt (suc i) len ends past =
@@ -146,7 +155,7 @@ module _ (first : List ℕ) (w : Cluster) (g : Ghost) (inv : Invariant first w g
         (λ h. share_sym x (g.made t) (suc k) (share_less x (g.made t) (suc k) (suc i) h.1 (subst (λ (u : ℕ). Share (suc i) x (g.made u)) (ends.2 ∙ sym h.0) root)))
         past
 
-    -- the chosen entry's majority and the election's have a common member
+    -- The quorum of the chosen entry and that of the election have a common member.
     by_quorum : (t k : ℕ) → (c : Chosen first w g t k) → t < t' → AreAdjacent (configuration_after first c.till) (configuration_after first x) → Share (suc k) (g.made t) x
     by_quorum t k c less near =
         let (v, backed, elected) = quorum_members_meet (configuration_after first c.till) (configuration_after first x) (λ v. Backs w g v t k)
@@ -158,7 +167,7 @@ module _ (first : List ℕ) (w : Cluster) (g : Ghost) (inv : Invariant first w g
         (λ (past : EndsPast x t k). past_has t k c less past.last_term (length x) refl past.ends.1 past.past)
         (elected t k backed less)
 
-    -- the log's last members entry: what was chosen before it stands in the log of the chosen entry's leading, or the log has that entry
+    -- What was chosen before the log's last members entry stands in the log of the chosen entry's leader, or the log has the chosen entry.
     from_last : (t k : ℕ) → (c : Chosen first w g t k) → t < t' → (p : Prep x) → Share (suc k) (g.made t) x ⊎ CoversChange x c.till
     from_last t k c less p =
         let l = p.last in let q = l.entry.term in
@@ -195,7 +204,7 @@ module _ (first : List ℕ) (w : Cluster) (g : Ghost) (inv : Invariant first w g
         })))
         (cases_order t q)
 
-    -- the last members entry of the chosen entry's log: what was chosen before it stands in this log
+    -- What was chosen before the last members entry of the chosen entry's log stands in this log.
     from_till : (t k : ℕ) → (c : Chosen first w g t k) → t < t' → ((r j : ℕ) → (d : Chosen first w g r j) → length d.till < length c.till → r < t' → Share (suc j) (g.made r) x) → QuietFrom c.till 0 ⊎ CoversChange c.till x
     from_till t k c less has =
         let sound = sound_front g c.till (g.made t) t c.front (inv.made t) in
@@ -209,7 +218,7 @@ module _ (first : List ℕ) (w : Cluster) (g : Ghost) (inv : Invariant first w g
         }))
         (prepare c.till t sound)
 
-    -- the log has each chosen entry of a lower term; by induction on the length that the leading's log had when it was chosen
+    -- The log has each chosen entry of a lower term: by induction on the length of the leader's log when it was chosen.
     elected_has : (n t k : ℕ) → (c : Chosen first w g t k) → length c.till < n → t < t' → Share (suc k) (g.made t) x
     elected_has zero t k c short less = absurd (omega (arith, short))
     elected_has (suc n) t k c short less =
@@ -219,27 +228,29 @@ module _ (first : List ℕ) (w : Cluster) (g : Ghost) (inv : Invariant first w g
         (λ (p : Prep x). ⊎_elim (λ done. done) (λ (s : CoversChange x c.till). by_quorum t k c less (adjacent c.till x till (inr s))) (from_last t k c less p))
         (prepare x t' el.sound)
 
-  -- each log that can take an leading has each entry that was chosen in a lower term; by induction on the leading's term
+  -- Each log that can win an election has each entry that was chosen in a lower term: by induction on the term.
   elects_below : (n : ℕ) → (t' : ℕ) → t' < n → (x : List Entry) → Election first w g t' t' x → (t k : ℕ) → (c : Chosen first w g t k) → t < t' → Share (suc k) (g.made t) x
   elects_below zero t' below = absurd (omega arith)
   elects_below (suc n) t' below = λ x el t k c less. elected_has t' t' (le_refl t') x el
       (λ u lower leader. elects_below n u (omega arith) (g.won u) (leader_election u leader))
       (suc (length c.till)) t k c (omega arith) less
 
+  -- A leader won with each entry that was chosen in a lower term.
   pub complete_won : (t k : ℕ) → Chosen first w g t k → (t' : ℕ) → g.leader t' ≢ 0 → t < t' → Share (suc k) (g.made t) (g.won t')
   complete_won t k c t' holds less = elects_below (suc t') t' (omega arith) (g.won t') (leader_election t' holds) t k c less
 
+  -- Leader completeness: the leader of each later term has each chosen entry.
   pub complete : (t k : ℕ) → Chosen first w g t k → (t' : ℕ) → g.leader t' ≢ 0 → t ≤ t' → Share (suc k) (g.made t) (g.made t')
   complete t k c t' holds le = ⊎_elim
       (λ e. subst (λ z. Share (suc k) (g.made t) (g.made z)) e (share_refl (g.made t) (suc k) (slice_get_within (g.made t) k c.entry c.there)))
       (λ ne. from_won t k t' (complete_won t k c t' holds (omega (arith, ne))))
       (cases_eq t t')
 
-  -- a candidate of a term whose leading may be held: its log has each entry that was chosen in a lower term
+  -- A candidate of a term that already has a leader has each entry that was chosen in a lower term.
   rival_has : (t' : ℕ) (x : List Entry) → Election first w g t' (suc t') x → (t k : ℕ) → Chosen first w g t k → t < t' → Share (suc k) (g.made t) x
   rival_has t' x el t k c less = elected_has t' (suc t') (omega arith) x el (λ u lower leader t k c less. complete_won t k c u leader less) (suc (length c.till)) t k c (omega arith) less
 
-  -- the configurations of two candidates of one term are adjacent
+  -- Two candidates of one term have adjacent configurations, so there is one leader per term.
   pub rivals_adjacent : (t' : ℕ) → g.leader t' ≢ 0 → (x : List Entry) → Election first w g t' (suc t') x → AreAdjacent (configuration_after first x) (configuration_after first (g.won t'))
   rivals_adjacent t' holds x el = adjacent x (g.won t')
       (⊎_elim inl (λ (p : Prep x). inr (record {

@@ -9,11 +9,12 @@ use Rattle.cp_agreement.proofs.Logs.{Share}
 abbrev pub QuietFrom : List Entry → ℕ → Type 0
 QuietFrom log n = (k : ℕ) (e : Entry) → n ≤ k → slice_get log k ≡ Some e → (members_in e.body) ≡ None
 
+-- A log without members entries leaves the first members.
 pub no_change : (first : List ℕ) (log : List Entry) → QuietFrom log 0 → configuration_after first log ≡ first
 no_change first [] quiet = refl
 no_change first (e ∷ log) quiet = ap (λ m. configuration_after (members_or m first) log) (quiet zero e (omega arith) refl) ∙ no_change first log (λ k f le is. quiet (suc k) f (omega arith) is)
 
--- two logs that agree on n entries, and have no members entry after these
+-- Logs that share n entries, and have no members entry after these, have one configuration.
 pub same_configuration : (n : ℕ) (first : List ℕ) (a b : List Entry) → Share n a b → QuietFrom a n → QuietFrom b n → configuration_after first a ≡ configuration_after first b
 same_configuration zero first a b both = λ ea eb. no_change first a ea ∙ sym (no_change first b eb)
 same_configuration (suc n) first [] b both = λ ea eb. absurd (let x = both zero (omega arith) in let y = x.1 in cc)
@@ -41,6 +42,7 @@ pub record LastChange (first : List ℕ) (log : List Entry) : Type 0 where
   pub ends : QuietFrom log (suc place)
   pub members_are : configuration_after first log ≡ members
 
+-- A log has no members entry, or a last one, which is its configuration.
 pub last_change : (first : List ℕ) (log : List Entry) → QuietFrom log 0 ⊎ LastChange first log
 last_change first [] = inl (λ k e le is. absurd (cc))
 last_change first (e ∷ log) = later (last_change (members_or (members_in e.body) first) log)

@@ -6,6 +6,7 @@ use Rattle.cp_agreement.specs.WholeLogs.{Cluster, Step, Facts, EntriesCreated, F
 none_sent : (m : Message) → Contains {X = Message} [] m → ⊥
 none_sent m c = omega (arith, c.1)
 
+-- A crash between two steps.
 pub crash_meets : (first : List ℕ) (w : Cluster) (m : ℕ) → m ≢ 0 → Facts first w (crash w m)
 crash_meets first w m named = record {
   others = record {

@@ -1,4 +1,4 @@
--- What one step changes of what a cluster_after has shown: nothing that stands is taken back.
+-- One step keeps the invariant: nothing that an execution has shown is taken back.
 use Rattle.cp_rules.specs.Entries.{Entry, members_in}
 use Rattle.cp_rules.specs.Configurations.{AreOneApart, HasQuorum, configuration_after}
 use Rattle.cp_rules.specs.Logs.{EndsAt, HasEntries, HasTerm, IsUpToDate}
@@ -15,6 +15,7 @@ use Rattle.cp_agreement.proofs.Configurations.{QuietFrom, same_configuration}
 use Rattle.cp_agreement.proofs.Complete.{complete, rivals_adjacent, sound_matches, sound_front}
 
 module _ (w : Cluster) (g : Ghost) (s : Step) where
+  -- how the ghost changes
   made_ne : (t : ℕ) → t ≢ s.after.term → (ghost_after w g s).made t ≡ g.made t
   made_ne t ne = put_other g.made s.after.term (made_after w g s) t ne
 
@@ -45,7 +46,7 @@ module _ (w : Cluster) (g : Ghost) (s : Step) where
   pub won_held : (t : ℕ) → g.leader t ≢ 0 → (ghost_after w g s).won t ≡ g.won t
   won_held t held = ⊎_elim (λ e. put_same g.won s.after.term (won_after w g s) t e ∙ ⊎_elim (λ (leading : s.leads ≡ true). rw (leading, ← e, ne_eqb (g.leader t) 0 held) refl) (λ (leading : s.leads ≡ false). rw (leading, e) refl) (cases_Bool s.leads)) (won_ne t) (cases_eq t s.after.term)
 
--- a log that has an entry ends with an entry of no lower term
+-- A log that has an entry ends with an entry of no lower term.
 ends_past : (g : Ghost) (log : List Entry) (u : ℕ) → Sound g log u → ((t : ℕ) → Sound g (g.made t) t) → (k : ℕ) (e : Entry) → slice_get log k ≡ Some e → (lt li : ℕ) → li ≡ length log → HasTerm log li lt → IsUpToDate lt li e.term (suc k)
 ends_past g log u sound made k e is lt zero end has = absurd (omega (arith, slice_get_within log k e is))
 ends_past g log u sound made k e is lt (suc i) end has =
@@ -54,7 +55,7 @@ ends_past g log u sound made k e is lt (suc i) end has =
     ⊎_elim (λ (h : e.term < lt). inl h) (λ (h : lt ≤ e.term). inr (omega (arith, has.2), omega arith)) (cases_lt e.term lt)
 
 module _ (first : List ℕ) (w : Cluster) (g : Ghost) (s : Step) (inv : Invariant first w g) (facts : Facts first w s) where
-  -- what a member that wins leading has to show
+  -- A member that wins an election has a log that can win it.
   candidacy : WinsElection first w s → Election first w g s.after.term (suc s.after.term) (w.member s.actor).log
   candidacy wins = record {
     sound = record {
@@ -90,9 +91,9 @@ module _ (first : List ℕ) (w : Cluster) (g : Ghost) (s : Step) (inv : Invarian
           inr (record { last_term = lt; ends = (refl, subst (λ i. HasTerm (w.member s.actor).log i lt) ends.0 ends.1); past = subst (λ i. IsUpToDate lt i t (suc k)) ends.0 past }))
           (inv.given v s.actor t s.after.term k said b less)
 
-  -- one leading per term: a member in leading is the one that took it
-  one_office : s.leads ≡ true → (g.leader s.after.term ≡ 0) ⊎ (g.leader s.after.term ≡ s.actor)
-  one_office leading = ⊎_elim inl (λ held. inr (⊎_elim goes_on (wins held) (facts.elected leading))) (cases_eq (g.leader s.after.term) 0)
+  -- One leader per term: whoever leads a term in this step is the first that led it.
+  one_leader : s.leads ≡ true → (g.leader s.after.term ≡ 0) ⊎ (g.leader s.after.term ≡ s.actor)
+  one_leader leading = ⊎_elim inl (λ held. inr (⊎_elim goes_on (wins held) (facts.elected leading))) (cases_eq (g.leader s.after.term) 0)
     where
       goes_on : ((w.member s.actor).is_leader ≡ true) × ((w.member s.actor).term ≡ s.after.term) → g.leader s.after.term ≡ s.actor
       goes_on h = subst (λ t. g.leader t ≡ s.actor) h.1 (inv.leading s.actor h.0).1
@@ -117,7 +118,7 @@ module _ (first : List ℕ) (w : Cluster) (g : Ghost) (s : Step) (inv : Invarian
           (λ sent. sym other.0 ∙ (inv.voted v s.actor s.after.term sent).1)
           said
 
-  -- a step of the member that holds the leading of its term: its log is the leading's, and stays or gets one entry
+  -- A step of the member that leads its term: its log is the leader's, and stays or gets one entry.
   mine : g.leader s.after.term ≡ s.actor → ((w.member s.actor).term ≡ s.after.term) × ((w.member s.actor).log ≡ g.made s.after.term) × ((s.after.log ≡ (w.member s.actor).log) ⊎ EntriesCreated first w s)
   mine holds =
       let term : (w.member s.actor).term ≡ s.after.term = omega (arith, facts.term, subst (λ m. s.after.term ≤ (w.member m).term) holds (inv.reached s.after.term (λ z. facts.named (sym holds ∙ z)))) in
@@ -129,14 +130,14 @@ module _ (first : List ℕ) (w : Cluster) (g : Ghost) (s : Step) (inv : Invarian
             (subst (λ l. HasEntries l f.came.previous f.came.entries) (sym log) (inv.append f.came.sender s.after.term f.came.previous f.came.previous_term f.came.entries f.came.commit (facts.delivered (Append f.came.sender s.after.term f.came.previous f.came.previous_term f.came.entries f.came.commit) f.came.got)).2) r)) f.change)) facts.log,
       )
 
-  -- a step in leading, also the one that wins it
-  is_leader : s.leads ≡ true → (s.after.log ≡ (w.member s.actor).log) ⊎ EntriesCreated first w s
-  is_leader leading = ⊎_elim
+  -- The same for each step that leads, also the one that wins the election.
+  leading_log : s.leads ≡ true → (s.after.log ≡ (w.member s.actor).log) ⊎ EntriesCreated first w s
+  leading_log leading = ⊎_elim
       (λ none. ⊎_elim inl (⊎_elim inr (λ (f : FollowsLeader w s). absurd ((inv.append f.came.sender s.after.term f.came.previous f.came.previous_term f.came.entries f.came.commit (facts.delivered (Append f.came.sender s.after.term f.came.previous f.came.previous_term f.came.entries f.came.commit) f.came.got)).0 none))) facts.log)
       (λ holds. (mine holds).2)
-      (one_office leading)
+      (one_leader leading)
 
-  -- what an leading's log has, it keeps
+  -- A leader's log keeps what it has.
   pub made_grows : (t k : ℕ) (e : Entry) → slice_get (g.made t) k ≡ Some e → slice_get ((ghost_after w g s).made t) k ≡ Some e
   made_grows t k e is = ⊎_elim
       (λ (same : t ≡ s.after.term). ⊎_elim
@@ -150,19 +151,20 @@ module _ (first : List ℕ) (w : Cluster) (g : Ghost) (s : Step) (inv : Invarian
       (λ e. rw e old)
       (λ (m : EntriesCreated first w s). rw m.result (get-append_left (w.member s.actor).log (m.entry ∷ []) k (slice_get_within (w.member s.actor).log k e old) ∙ old))
       change)
-      (one_office leading)))
+      (one_leader leading)))
       (λ leading. rw (made_out w g s t leading) is)
       (cases_Bool s.leads))
       (λ ne. rw (made_ne w g s t ne) is)
       (cases_eq t s.after.term)
 
+  -- A term that has a leader keeps it.
   pub leader_stays : (t : ℕ) → g.leader t ≢ 0 → (ghost_after w g s).leader t ≡ g.leader t
   leader_stays t held = ⊎_elim
       (λ (same : t ≡ s.after.term). ⊎_elim
       (λ (leading : s.leads ≡ true). ⊎_elim
       (λ none. absurd (held (ap g.leader same ∙ none)))
       (λ holds. leader_in w g s t leading same ∙ sym holds ∙ ap g.leader (sym same))
-      (one_office leading))
+      (one_leader leading))
       (leader_out w g s t)
       (cases_Bool s.leads))
       (leader_ne w g s t)
@@ -181,7 +183,7 @@ module _ (first : List ℕ) (w : Cluster) (g : Ghost) (s : Step) (inv : Invarian
       (λ ne. ap (λ f. f t) (put_other g.vote_of s.actor (put (g.vote_of s.actor) s.after.term s.after.vote) m ne))
       (cases_eq m s.actor)
 
-  -- a vote that was cast stays
+  -- A vote that was cast stays.
   vote_of_stays : (m t : ℕ) → g.vote_of m t ≢ 0 → (ghost_after w g s).vote_of m t ≡ g.vote_of m t
   vote_of_stays m t cast = ⊎_elim
       (λ (em : m ≡ s.actor). ⊎_elim
@@ -199,21 +201,24 @@ module _ (first : List ℕ) (w : Cluster) (g : Ghost) (s : Step) (inv : Invarian
       (λ ne. vote_of_else m t (inl ne))
       (cases_eq m s.actor)
 
+  -- What was shared with a leader's log stays.
   pub share_grows : (n t : ℕ) (l : List Entry) → Share n l (g.made t) → Share n l ((ghost_after w g s).made t)
   share_grows n t l both k less = let x = both k less in (x.0, x.1, made_grows t k x.0 x.2)
 
+  -- A clash stays.
   clash_grows : (t k u u' : ℕ) → u ≤ u' → Clash g t k u → Clash (ghost_after w g s) t k u'
   clash_grows t k u u' le c =
       let (j, l, e, f, he, hf, d) = c.differ in
       record { by = c.by; from = c.from; below = omega (arith, c.below); differ = (j, l, e, f, made_grows c.by j e he, made_grows t j f hf, d) }
 
+  -- A sound log stays sound.
   pub sound_grows : (l : List Entry) (u u' : ℕ) → u ≤ u' → Sound g l u → Sound (ghost_after w g s) l u'
   sound_grows l u u' le sound = record {
     upto = λ k e is. let h : e.term ≤ u = sound.upto k e is in omega arith;
     rooted = λ k e is. share_grows (suc k) e.term l (sound.rooted k e is);
   }
 
-  -- the log that the actor is left with
+  -- The log that the actor is left with is sound.
   sound_log : Sound (ghost_after w g s) s.after.log s.after.term
   sound_log = ⊎_elim stays (⊎_elim creates follows) facts.log
     where
@@ -258,7 +263,7 @@ module _ (first : List ℕ) (w : Cluster) (g : Ghost) (s : Step) (inv : Invarian
   term_grows : (m : ℕ) → (w.member m).term ≤ ((after_step w s).member m).term
   term_grows = at_each (λ m x. (w.member m).term ≤ x.term) w s facts.term (λ m ne. le_refl (w.member m).term)
 
-  -- the actor's log is its leading's
+  -- The log of the member that leads its term is the leader's log.
   own_actor : (ghost_after w g s).leader s.after.term ≡ s.actor → s.after.log ≡ (ghost_after w g s).made s.after.term
   own_actor holds = ⊎_elim
       (λ leading. sym (made_in w g s s.after.term leading refl))
@@ -285,7 +290,7 @@ module _ (first : List ℕ) (w : Cluster) (g : Ghost) (s : Step) (inv : Invarian
       (λ leading. (facts.named, leader_in w g s s.after.term (facts.leads leading) refl))
       (λ m ne leading. let h = inv.leading m leading in (h.0, leader_stays (w.member m).term (λ z. h.0 (sym h.1 ∙ z)) ∙ h.1))
 
-  -- an leading that this step didn't take is as before
+  -- A term that this step does not lead is as before.
   pub cases_led : (t : ℕ) → ((s.leads ≡ true) × (t ≡ s.after.term)) ⊎ (((ghost_after w g s).leader t ≡ g.leader t) × ((ghost_after w g s).made t ≡ g.made t))
   cases_led t = ⊎_elim
       (λ (same : t ≡ s.after.term). ⊎_elim (λ leading. inl (leading, same)) (λ leading. inr (leader_out w g s t leading, made_out w g s t leading)) (cases_Bool s.leads))
@@ -304,7 +309,7 @@ module _ (first : List ℕ) (w : Cluster) (g : Ghost) (s : Step) (inv : Invarian
       (λ h. held_stays t (inv.held t k e (ap (λ l. slice_get l k) (sym h.1) ∙ is)))
       (cases_led t)
 
-  -- only the first taking of an leading changes the log with which it was won
+  -- Only the step that wins an election sets the log with which it was won.
   cases_won : (t : ℕ) → ((s.leads ≡ true) × (g.leader t ≡ 0) × (t ≡ s.after.term)) ⊎ ((ghost_after w g s).won t ≡ g.won t)
   cases_won t = ⊎_elim
       (λ (h : (s.leads ≡ true) × (t ≡ s.after.term)). ⊎_elim (λ none. inl (h.0, none, h.1)) (λ held. inr (won_held w g s t held)) (cases_eq (g.leader t) 0))
@@ -314,12 +319,12 @@ module _ (first : List ℕ) (w : Cluster) (g : Ghost) (s : Step) (inv : Invarian
       (λ ne. inr (won_ne w g s t ne))
       (cases_eq t s.after.term))
 
-  -- in the step that wins an leading its log is the one with which it was won, and at most one entry more
+  -- In a step that leads, the log before it is a front of the log after it.
   log_front : s.leads ≡ true → Share (length (w.member s.actor).log) (w.member s.actor).log s.after.log
   log_front leading = ⊎_elim
       (λ e. subst (Share (length (w.member s.actor).log) (w.member s.actor).log) (sym e) (share_refl (w.member s.actor).log (length (w.member s.actor).log) (le_refl (length (w.member s.actor).log))))
       (λ (m : EntriesCreated first w s). λ k less. let x = has_place (w.member s.actor).log k less in (x.0, x.1, rw m.result (get-append_left (w.member s.actor).log (m.entry ∷ []) k less ∙ x.1)))
-      (is_leader leading)
+      (leading_log leading)
 
   next_won : (t : ℕ) → Share (length ((ghost_after w g s).won t)) ((ghost_after w g s).won t) ((ghost_after w g s).made t)
   next_won t = ⊎_elim
@@ -327,7 +332,7 @@ module _ (first : List ℕ) (w : Cluster) (g : Ghost) (s : Step) (inv : Invarian
       (λ (h : (ghost_after w g s).won t ≡ g.won t). subst (λ l. Share (length l) l ((ghost_after w g s).made t)) (sym h) (share_grows (length (g.won t)) t (g.won t) (inv.won t)))
       (cases_won t)
 
-  -- a step that wins an leading that nobody held
+  -- Whoever leads a term that nobody led before wins an election.
   wins_now : s.leads ≡ true → g.leader s.after.term ≡ 0 → WinsElection first w s
   wins_now leading none = ⊎_elim
       (λ h. absurd (facts.named (sym (inv.leading s.actor h.0).1 ∙ ap g.leader h.1 ∙ none)))
@@ -366,7 +371,7 @@ module _ (first : List ℕ) (w : Cluster) (g : Ghost) (s : Step) (inv : Invarian
       ))
       (Contains-append_cases w.sent s.sends (Vote c t lt li) sent)
 
-  -- the Append that came, as a piece of its leading's log
+  -- The Append that came is a piece of its leader's log.
   came_piece : (c : GotAppend w s) → (g.leader s.after.term ≢ 0) × HasTerm (g.made s.after.term) c.previous c.previous_term × ((k : ℕ) (e : Entry) → slice_get c.entries k ≡ Some e → slice_get (g.made s.after.term) (c.previous + k) ≡ Some e)
   came_piece c = inv.append c.sender s.after.term c.previous c.previous_term c.entries c.commit (facts.delivered (Append c.sender s.after.term c.previous c.previous_term c.entries c.commit) c.got)
 
@@ -382,7 +387,7 @@ module _ (first : List ℕ) (w : Cluster) (g : Ghost) (s : Step) (inv : Invarian
       ))
       (Contains-append_cases w.sent s.sends (Append f t p pt es c) sent)
 
-  -- what a member acknowledges for, it has
+  -- What a member acknowledges, it has.
   acknowledged_shared : (j : ℕ) → Acknowledges w s j → Share j s.after.log ((ghost_after w g s).made s.after.term)
   acknowledged_shared j a =
       let h = came_piece a.came in
@@ -403,7 +408,7 @@ module _ (first : List ℕ) (w : Cluster) (g : Ghost) (s : Step) (inv : Invarian
       ))
       (Contains-append_cases w.sent s.sends (Appended v to t j) sent)
 
-  -- whoever stands behind an entry now did before this step, or begins to in this step, and then has it
+  -- Whoever stands behind an entry now did before this step, or begins to in this step, and then has it.
   cases_backs : (v t k : ℕ) → Backs (after_step w s) (ghost_after w g s) v t k → Backs w g v t k ⊎ ((v ≡ s.actor) × (t ≡ s.after.term) × Share (suc k) s.after.log ((ghost_after w g s).made t))
   cases_backs v t k b = ⊎_elim holds acknowledged b.by
     where
@@ -425,14 +430,14 @@ module _ (first : List ℕ) (w : Cluster) (g : Ghost) (s : Step) (inv : Invarian
           inr (y.0, y.1, subst (λ u. Share (suc k) s.after.log ((ghost_after w g s).made u)) (sym y.1) (share_less s.after.log ((ghost_after w g s).made s.after.term) (suc k) j less (acknowledged_shared j y.2))))
           (Contains-append_cases w.sent s.sends (Appended v to t j) sent)
 
-  -- whoever stood behind an entry of a term has come to that term
+  -- Whoever stood behind an entry of a term has come to that term.
   backs_term : (v t k : ℕ) → Backs w g v t k → t ≤ (w.member v).term
   backs_term v t k b = ⊎_elim
       (λ e. subst (λ (m : ℕ). t ≤ (w.member m).term) (sym e) (inv.reached t (inv.held t k b.entry b.there)))
       (λ h. (inv.acknowledged v h.0 t h.1 h.3).1)
       b.by
 
-  -- what the actor's log had in common with an leading's, it keeps, or the leading that it follows differs there
+  -- What the actor's log shared with a leader's, it keeps, or the leader that it follows differs there.
   log_keeps : (t k : ℕ) → Share (suc k) (w.member s.actor).log (g.made t) → Share (suc k) s.after.log (g.made t) ⊎ ((g.leader s.after.term ≢ 0) × Differ k (g.made s.after.term) (g.made t))
   log_keeps t k both = ⊎_elim stays (⊎_elim creates follows) facts.log
     where
@@ -447,6 +452,7 @@ module _ (first : List ℕ) (w : Cluster) (g : Ghost) (s : Step) (inv : Invarian
       follows f = let h = came_piece f.came in
           ⊎_elim stays (λ r. ⊎_elim inl (λ d. inr (h.0, d)) (kept_or_differ (w.member s.actor).log (g.made s.after.term) (g.made t) s.after.log f.came.previous f.came.entries h.2 r k both)) f.change
 
+  -- Whoever stands behind an entry keeps it, or a leader clashes with it.
   kept_actor : (t k : ℕ) → Backs (after_step w s) (ghost_after w g s) s.actor t k → Share (suc k) s.after.log ((ghost_after w g s).made t) ⊎ Clash (ghost_after w g s) t k (suc s.after.term)
   kept_actor t k b = ⊎_elim
       (λ (old : Backs w g s.actor t k). ⊎_elim
@@ -470,16 +476,17 @@ module _ (first : List ℕ) (w : Cluster) (g : Ghost) (s : Step) (inv : Invarian
       (λ h. absurd (ne h.0))
       (cases_backs v t k b))
 
-  -- a member that voted in a term has come to that term
+  -- A member that voted in a term has come to that term.
   voted_term : (v t : ℕ) → g.vote_of v t ≢ 0 → t ≤ (w.member v).term
   voted_term v t cast = ⊎_elim (λ low. absurd (cast (inv.unvoted v t low))) (λ le. le) (cases_lt (w.member v).term t)
 
-  -- an entry of an leading in the actor's log keeps the log's end from being below it
+  -- A log that has a leader's own entry does not end below it.
   actor_past : (t k : ℕ) (b : Backs (after_step w s) (ghost_after w g s) s.actor t k) → Share (suc k) s.after.log ((ghost_after w g s).made t) → (lt li : ℕ) → EndsAt s.after.log lt li → IsUpToDate lt li t (suc k)
   actor_past t k b both lt li ends =
       subst (λ u. IsUpToDate lt li u (suc k)) b.own (ends_past (ghost_after w g s) s.after.log s.after.term sound_log sound_made k b.entry
       (share_at ((ghost_after w g s).made t) s.after.log (suc k) k b.entry (share_sym s.after.log ((ghost_after w g s).made t) (suc k) both) (lt-suc_self k) b.there) lt li ends.0 ends.1)
 
+  -- Whoever said yes to a candidate stands behind nothing that the candidate's log is below.
   next_given : (v c t t' k : ℕ) → Contains (after_step w s).sent (Voted v c t') → Backs (after_step w s) (ghost_after w g s) v t k → t < t' → Clash (ghost_after w g s) t k (suc t') ⊎ ((lt : ℕ) × (li : ℕ) × Contains (after_step w s).sent (Vote c t' lt li) × IsUpToDate lt li t (suc k))
   next_given v c t t' k sent b less = ⊎_elim
       (λ said. ⊎_elim
@@ -506,17 +513,18 @@ module _ (first : List ℕ) (w : Cluster) (g : Ghost) (s : Step) (inv : Invarian
       (kept_actor t k b'))
       (Contains-append_cases w.sent s.sends (Voted v c t') sent)
 
-  -- no leading of a term that nobody held clashes
+  -- A term that nobody led clashes with nothing.
   clash_below : (t k t' : ℕ) → g.leader t' ≡ 0 → Clash g t k (suc t') → Clash (ghost_after w g s) t k t'
   clash_below t k t' none c =
       let (j, l, e, f, he, hf, d) = c.differ in
       let ne : c.by ≢ t' = λ z. inv.held c.by j e he (ap g.leader z ∙ none) in
       clash_grows t k t' t' (le_refl t') (record { by = c.by; from = c.from; below = omega (arith, c.below, ne); differ = c.differ })
 
+  -- A member of the quorum that elected the leader of a term.
   abbrev Elects : ℕ → ℕ → Type 0
   Elects t' v = ((ghost_after w g s).vote_of v t' ≡ (ghost_after w g s).leader t') × ((t k : ℕ) → Backs (after_step w s) (ghost_after w g s) v t k → t < t' → Clash (ghost_after w g s) t k t' ⊎ EndsPast ((ghost_after w g s).won t') t k)
 
-  -- the leading was held before
+  -- a term that had a leader before
   elected_before : (t' : ℕ) → g.leader t' ≢ 0 → HasQuorum (configuration_after first ((ghost_after w g s).won t')) (Elects t')
   elected_before t' held =
       let q = inv.elected t' held in
@@ -539,7 +547,7 @@ module _ (first : List ℕ) (w : Cluster) (g : Ghost) (s : Step) (inv : Invarian
             ),
       )
 
-  -- this step wins the leading
+  -- a term whose election this step wins
   elected_now : s.leads ≡ true → g.leader s.after.term ≡ 0 → HasQuorum (configuration_after first ((ghost_after w g s).won s.after.term)) (Elects s.after.term)
   unfolding candidacy
   elected_now leading none =
@@ -585,6 +593,7 @@ module _ (first : List ℕ) (w : Cluster) (g : Ghost) (s : Step) (inv : Invarian
         b.by;
   }
 
+  -- A chosen entry stays chosen.
   abbrev pub chosen_grows : (t k : ℕ) → Chosen first w g t k → Chosen first (after_step w s) (ghost_after w g s) t k
   chosen_grows t k c = record {
     entry = c.entry;
@@ -596,6 +605,7 @@ module _ (first : List ℕ) (w : Cluster) (g : Ghost) (s : Step) (inv : Invarian
     quorum = (c.quorum.0, c.quorum.1, λ v chosen. backs_grows v t k (c.quorum.2 v chosen));
   }
 
+  -- What is committed stays committed.
   pub committed_grows : (l l' : List Entry) (n u u' : ℕ) → u ≤ u' → ((c : Committed first w g l n u) → Share n l' (g.made c.term)) → Committed first w g l n u → Committed first (after_step w s) (ghost_after w g s) l' n u'
   committed_grows l l' n u u' le same c = record {
     term = c.term;
@@ -606,12 +616,12 @@ module _ (first : List ℕ) (w : Cluster) (g : Ghost) (s : Step) (inv : Invarian
     same = share_grows n c.term l' (same c);
   }
 
-  -- fewer entries of a committed list are committed
+  -- Fewer entries of a committed list are committed.
   commits_less : (log : List Entry) (n m u : ℕ) → m ≤ n → (n ≡ 0) ⊎ Committed first w g log n u → (m ≡ 0) ⊎ Committed first w g log m u
   commits_less log n m u le (inl e) = inl (omega arith)
   commits_less log n m u le (inr c) = inr (record { term = c.term; place = c.place; upto = c.upto; covers = le_trans le c.covers; chosen = c.chosen; same = share_less log (g.made c.term) m n le c.same })
 
-  -- what was committed in the actor's log stays
+  -- What was committed in the actor's log stays.
   still_committed : (n : ℕ) → (n ≡ 0) ⊎ Committed first w g (w.member s.actor).log n (w.member s.actor).term → (n ≡ 0) ⊎ Committed first (after_step w s) (ghost_after w g s) s.after.log n s.after.term
   still_committed n (inl e) = inl e
   still_committed zero (inr c) = inl refl
@@ -620,6 +630,7 @@ module _ (first : List ℕ) (w : Cluster) (g : Ghost) (s : Step) (inv : Invarian
       (λ h. absurd (differ_shared n (suc c.place) (g.made s.after.term) (g.made c.term) h.1 (complete first w g inv c.term c.place c.chosen s.after.term h.0 (le_trans c.upto facts.term)) c.covers))
       (log_keeps c.term n c.same)) c)
 
+  -- A leader commits what a quorum stands behind.
   leader_commits : (n : ℕ) → n ≡ s.after.commit → LeaderCommits first w s → (n ≡ 0) ⊎ Committed first (after_step w s) (ghost_after w g s) s.after.log n s.after.term
   leader_commits zero e c = inl refl
   leader_commits (suc n) e c =
@@ -657,6 +668,7 @@ module _ (first : List ℕ) (w : Cluster) (g : Ghost) (s : Step) (inv : Invarian
         same = subst (Share (suc n) s.after.log) log (share_refl s.after.log (suc n) within);
       })
 
+  -- Another commits what its leader told it.
   follower_commits : FollowerCommits w s → (s.after.commit ≡ 0) ⊎ Committed first (after_step w s) (ghost_after w g s) s.after.log s.after.commit s.after.term
   follower_commits c =
       let came = c.acknowledges.came in
@@ -705,6 +717,7 @@ module _ (first : List ℕ) (w : Cluster) (g : Ghost) (s : Step) (inv : Invarian
       (subst (λ u. (s.after.commit ≡ 0) ⊎ Committed first (after_step w s) (ghost_after w g s) s.after.log s.after.commit u) (sym y.term_is) commit_actor)))
       (Contains-append_cases w.sent s.sends (Append f t p pt es c) sent)
 
+  -- A prepared members entry stays prepared.
   prepared_grows : (r x : ℕ) (e : Entry) (after : List ℕ) → slice_get (g.made r) x ≡ Some e → Prepared first w g r x after → Prepared first (after_step w s) (ghost_after w g s) r x after
   prepared_grows r x e after is p = record {
     place = p.place;
@@ -716,13 +729,13 @@ module _ (first : List ℕ) (w : Cluster) (g : Ghost) (s : Step) (inv : Invarian
     one_apart = p.one_apart;
   }
 
-  -- a members entry that this step creates
+  -- A members entry that this step creates is prepared.
   prepared_now : (m : EntriesCreated first w s) (after : List ℕ) → members_in m.entry.body ≡ Some after → Prepared first (after_step w s) (ghost_after w g s) s.after.term (length (w.member s.actor).log) after
   prepared_now m after is =
       let c = m.change after is in
       let (k, e, less, there, own) = c.own in
       let held : g.leader s.after.term ≢ 0 = λ none. inv.held s.after.term k e (subst (λ (u : ℕ). slice_get (g.made u) k ≡ Some e) own (share_at (w.member s.actor).log (g.made e.term) (suc k) k e ((inv.log s.actor).rooted k e there) (lt-suc_self k) there)) none in
-      let (term, log, change) = mine (⊎_elim (λ none. absurd (held none)) (λ h. h) (one_office m.leading)) in
+      let (term, log, change) = mine (⊎_elim (λ none. absurd (held none)) (λ h. h) (one_leader m.leading)) in
       ⊎_elim
       (λ none. absurd (omega (arith, none, less)))
       (λ (x : Committed first w g (w.member s.actor).log (w.member s.actor).commit (w.member s.actor).term).
@@ -752,7 +765,7 @@ module _ (first : List ℕ) (w : Cluster) (g : Ghost) (s : Step) (inv : Invarian
       let old : slice_get (w.member s.actor).log x ≡ Some e → Prepared first (after_step w s) (ghost_after w g s) r x after = λ was.
       let holds : g.leader s.after.term ≡ s.actor = ⊎_elim
       (λ none. absurd (let low = (wins_now h.0 none).fresh x e was in omega (arith, low, own, h.1)))
-      (λ z. z) (one_office h.0) in
+      (λ z. z) (one_leader h.0) in
       let made : g.made r ≡ (w.member s.actor).log = ap g.made h.1 ∙ sym (mine holds).1 in
       let before : slice_get (g.made r) x ≡ Some e = rw made was in
       prepared_grows r x e after before (inv.prepared r x e after before own members) in
@@ -762,12 +775,13 @@ module _ (first : List ℕ) (w : Cluster) (g : Ghost) (s : Step) (inv : Invarian
       (λ z. subst (λ (u : ℕ). Prepared first (after_step w s) (ghost_after w g s) u x after) (sym h.1)
       (subst (λ (u : ℕ). Prepared first (after_step w s) (ghost_after w g s) s.after.term u after) (sym z.0) (prepared_now m after (ap (λ y. members_in y.body) (sym z.1) ∙ members))))
       (push_cases (w.member s.actor).log m.entry e x (ap (λ l. slice_get l x) (sym m.result) ∙ here)))
-      (is_leader h.0))
+      (leading_log h.0))
       (λ h.
       let before : slice_get (g.made r) x ≡ Some e = ap (λ l. slice_get l x) (sym h.1) ∙ is in
       prepared_grows r x e after before (inv.prepared r x e after before own members))
       (cases_led r)
 
+  -- The invariant after the step.
   pub next : Invariant first (after_step w s) (ghost_after w g s)
   next = record {
     vote = next_vote;

@@ -1,4 +1,4 @@
--- What is committed is held now by a majority of the configuration in force for it, or of a neighbour of that.
+-- What is committed is held now by a quorum of the configuration in force for it, or of an adjacent one.
 use Rattle.std.proofs.Common.{◌≡◌, ℕ, zero, suc, ◌<◌, ◌≤◌, inl, inr, ⊎_elim, List, length, take, sym, ◌∙◌, arith, subst, subst₂, Some, slice_get, length-take}
 use Rattle.std.proofs.lemmas.Bool.{cases_lt}
 use Rattle.std.proofs.lemmas.Option.{slice_get_within}
@@ -10,7 +10,7 @@ use Rattle.cp_agreement.proofs.Configurations.{QuietFrom, same_configuration}
 use Rattle.cp_agreement.proofs.Ghost.{Ghost, Backs, Clash, Chosen, Invariant}
 use Rattle.cp_agreement.proofs.Complete.{complete, no_clash, prepare, Prep, sound_front}
 
--- a front, as a list
+-- a front of a log, as a list of its own
 share_front : (l : List Entry) (n : ℕ) → n ≤ length l → Share n (take n l) l
 share_front l n le k less = let x = has_place l k (omega arith) in (x.0, get-take l n k less ∙ x.1, x.1)
 
@@ -18,7 +18,7 @@ front_within : (l : List Entry) (n k : ℕ) (e : Entry) → slice_get (take n l)
 front_within l n k e is = omega (arith, slice_get_within (take n l) k e is, length-take n l)
 
 module _ (first : List ℕ) (w : Cluster) (g : Ghost) (inv : Invariant first w g) where
-  -- whoever stands behind a chosen entry still has it
+  -- Whoever stands behind a chosen entry still has it.
   still_has : (t k : ℕ) → Chosen first w g t k → (v : ℕ) → Backs w g v t k → Share (suc k) (w.member v).log (g.made t)
   still_has t k c v b = ⊎_elim (λ both. both)
       (λ (clash : Clash g t k (suc (w.member v).term)).
@@ -26,12 +26,13 @@ module _ (first : List ℕ) (w : Cluster) (g : Ghost) (inv : Invariant first w g
       absurd (no_clash first w g inv t k (suc (w.member v).term) clash (complete first w g inv t k c clash.by (inv.held clash.by j e he) clash.from)))
       (inv.kept v t k b)
 
+  -- A quorum of an adjacent configuration has the front up to place i.
   pub record Holds (t i : ℕ) : Type 0 where
     pub members : List ℕ
     pub near : AreAdjacent (configuration_after first (take (suc i) (g.made t))) members
     pub by : HasQuorum members (λ v. Share (suc i) (w.member v).log (g.made t))
 
-  -- by the chosen entry's own majority, where its configuration is near enough
+  -- By the chosen entry's own quorum, where its configuration is adjacent.
   by_own : (t k : ℕ) → (c : Chosen first w g t k) → (i : ℕ) → i ≤ k → AreAdjacent (configuration_after first (take (suc i) (g.made t))) (configuration_after first c.till) → Holds t i
   by_own t k c i le near = record {
     members = configuration_after first c.till;
@@ -39,6 +40,7 @@ module _ (first : List ℕ) (w : Cluster) (g : Ghost) (inv : Invariant first w g
     by = (c.quorum.0, c.quorum.1, λ v chosen. share_less (w.member v).log (g.made t) (suc i) (suc k) (omega arith) (still_has t k c v (c.quorum.2 v chosen)));
   }
 
+  -- By induction on the length of the leader's log when the entry was chosen.
   held_below : (n t k : ℕ) → (c : Chosen first w g t k) → length c.till < n → (i : ℕ) → i ≤ k → Holds t i
   held_below zero t k c short i le = absurd (omega (arith, short))
   held_below (suc n) t k c short i le =
@@ -83,5 +85,6 @@ module _ (first : List ℕ) (w : Cluster) (g : Ghost) (inv : Invariant first w g
       (cases_lt i l.place))
       (prepare first w g inv c.till t (sound_front g c.till (g.made t) t c.front (inv.made t)))
 
+  -- Each entry up to a chosen one is held.
   pub held : (t k : ℕ) → Chosen first w g t k → (i : ℕ) → i ≤ k → Holds t i
   held t k c i le = held_below (suc (length c.till)) t k c (omega arith) i le

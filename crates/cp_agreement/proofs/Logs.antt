@@ -1,11 +1,11 @@
--- What two logs have in common, by places counted from 0.
+-- What two logs share, by places counted from 0.
 use Rattle.std.proofs.Common.{◌≡◌, ◌≢◌, ℕ, zero, suc, ◌+◌, ◌<◌, ◌≤◌, ◌⊎◌, inl, inr, ⊎_elim, ◌-◌, le_of_lt, List, [], ◌∷◌, ◌++◌, length, take, drop, refl, ap, sym, ◌∙◌, arith, Some, slice_get, zero-add, suc-add, add-zero, add-suc, length-take, length-append, length-drop}
 use Rattle.std.proofs.lemmas.Option.{slice_get_within, same_Some}
 use Rattle.std.proofs.lemmas.Bool.{cases_lt}
 use Rattle.cp_rules.specs.Entries.{Entry}
 use Rattle.cp_rules.specs.Logs.{HasEntries, HasTerm, HasTerms, IsUpToDate, Replaces}
 
--- both have the first n entries, and these are equal
+-- Both logs have n first entries, and these are equal. It stays so when either grows.
 abbrev pub Share : ℕ → List Entry → List Entry → Type 0
 Share n a b = (k : ℕ) → k < n → (e : Entry) × (slice_get a k ≡ Some e) × (slice_get b k ≡ Some e)
 
@@ -48,16 +48,16 @@ pub get-append_right : {X : Type 0} (a b : List X) (k : ℕ) → slice_get (a ++
 get-append_right [] b k = rw zero-add refl
 get-append_right (x ∷ a) b k = rw suc-add (get-append_right a b k)
 
--- whether the log of an leading and another log have it: the entries of the leading agree with those of the same term
+-- Entries of one term at one place have equal fronts.
 abbrev pub Matches : List Entry → List Entry → Type 0
 Matches a b = (k : ℕ) (e f : Entry) → slice_get a k ≡ Some e → slice_get b k ≡ Some f → e.term ≡ f.term → Share (suc k) a b
 
--- two logs that have the same term at an index agree up to it
+-- Two logs that have the same term at an index share what lies up to it.
 pub reach_at : (a b : List Entry) (i t : ℕ) → Matches a b → HasTerm a i t → HasTerm b i t → Share i a b
 reach_at a b zero t m ha hb = λ k l. absurd (omega arith)
 reach_at a b (suc i) t m ha hb = m i ha.0 hb.0 ha.1 hb.1 (ha.2 ∙ sym hb.2)
 
--- the log a has the terms of the first d entries of a piece of b that begins after p: the two agree up to there
+-- A log that has the terms of the first d entries of a piece of b, which begins after p, shares with b what lies up to there.
 pub reach : (a b : List Entry) (p pt : ℕ) (es : List Entry) (d : ℕ) → Matches a b → HasTerm a p pt → HasTerm b p pt → HasEntries b p es → HasTerms a p es d → d ≤ length es → Share (p + d) a b
 reach a b p pt es zero m ha hb piece terms l = rw add-zero (reach_at a b p pt m ha hb)
 reach a b p pt es (suc d) m ha hb piece terms l =
@@ -65,6 +65,7 @@ reach a b p pt es (suc d) m ha hb piece terms l =
     rw add-suc (reach_at a b (suc (p + d)) e.0.term m (terms d e.0 (omega arith) e.1) (e.0, piece d e.0 e.1, refl))
 
 module _ (a after : List Entry) (p : ℕ) (es : List Entry) (r : Replaces a p es after) where
+  -- What a replacement does to a log.
   replaced_fits : p + r.kept ≤ length a
   replaced_fits = ⊎_elim (λ e. omega (arith, e)) (λ x. le_of_lt (slice_get_within a (p + r.kept) x.0 x.1)) r.differs
 
@@ -80,7 +81,7 @@ module _ (a after : List Entry) (p : ℕ) (es : List Entry) (r : Replaces a p es
   pub replaced_length : length after ≡ p + length es
   replaced_length = omega (arith, ap length r.result, length-append (take (p + r.kept) a) (drop r.kept es), replaced_kept, length-drop r.kept es, slice_get_within es r.kept r.entry r.there)
 
--- after a log followed a piece of the leading's log b by a replacement, it is a front of b
+-- A log that follows a piece of the leader's log b by a replacement is a front of b.
 pub replaced_front : (a b after : List Entry) (p pt : ℕ) (es : List Entry) → Matches a b → HasTerm a p pt → HasTerm b p pt → HasEntries b p es → (r : Replaces a p es after) → Share (length after) after b
 replaced_front a b after p pt es m ha hb piece r k l = ⊎_elim low high (cases_lt k (p + r.kept))
   where
@@ -99,7 +100,7 @@ replaced_front a b after p pt es m ha hb piece r k l = ⊎_elim low high (cases_
 abbrev pub Differ : ℕ → List Entry → List Entry → Type 0
 Differ k a b = (j : ℕ) × (j ≤ k) × (e : Entry) × (f : Entry) × (slice_get a j ≡ Some e) × (slice_get b j ≡ Some f) × (e.term ≢ f.term)
 
--- what a log has in common with c, it keeps through a replacement by a piece of b, or b and c differ there
+-- What a log shares with c, it keeps through a replacement by a piece of b, or b and c differ there.
 pub kept_or_differ : (a b c after : List Entry) (p : ℕ) (es : List Entry) → HasEntries b p es → (r : Replaces a p es after) → (k : ℕ) → Share (suc k) a c → Share (suc k) after c ⊎ Differ k b c
 kept_or_differ a b c after p es piece r k both = ⊎_elim kept lost (cases_lt k (p + r.kept))
   where
@@ -121,7 +122,7 @@ kept_or_differ a b c after p es piece r k both = ⊎_elim kept lost (cases_lt k 
               r.differs,
         )
 
--- no replacement by a piece of b changes a log that is b
+-- No replacement by a piece of b changes a log that is b.
 pub own_unchanged : (a after : List Entry) (p : ℕ) (es : List Entry) → HasEntries a p es → Replaces a p es after → ⊥
 own_unchanged a after p es piece r =
     ⊎_elim
@@ -149,7 +150,7 @@ pub has_term_grows : (a b : List Entry) → ((k : ℕ) (e : Entry) → slice_get
 has_term_grows a b h zero t has = has
 has_term_grows a b h (suc i) t has = (has.0, h i has.0 has.1, has.2)
 
--- every log ends somewhere
+-- Every log ends somewhere.
 pub ends_somewhere : (log : List Entry) (n : ℕ) → n ≤ length log → (t : ℕ) × HasTerm log n t
 ends_somewhere log zero le = (0, refl)
 ends_somewhere log (suc n) le = let x = has_place log n le in (x.0.term, (x.0, x.1, refl))

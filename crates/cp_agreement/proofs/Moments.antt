@@ -1,4 +1,4 @@
--- The four laws of agreement, over every list of steps that meets the facts.
+-- The invariant at each moment, and the laws of agreement on whole logs.
 use Rattle.std.proofs.Common.{◌≡◌, ◌≢◌, ℕ, suc, ◌<◌, ◌≤◌, ◌⊎◌, inl, inr, ⊎_elim, true, List, [], ◌∷◌, ◌++◌, length, take, drop, refl, ap, sym, ◌∙◌, arith, subst, Contains, le_refl, true≢false, take-append-drop, take-take, lt_of_le_of_lt, le_of_lt}
 use Rattle.std.proofs.lemmas.Bool.{cases_lt}
 use Rattle.std.proofs.lemmas.List.{append_assoc, append-nil}
@@ -16,6 +16,7 @@ use Rattle.cp_agreement.proofs.Grows.{next, sound_grows, committed_grows, leader
 none_sent : (m : Message) → Contains {X = Message} [] m → ⊥
 none_sent m c = omega (arith, c.1)
 
+-- the invariant before the first step
 start : (first : List ℕ) → Invariant first opening (ghost_of [])
 start first = record {
   vote = λ m. refl;
@@ -40,17 +41,19 @@ start first = record {
   told = λ f t p pt es c sent. absurd (none_sent (Append f t p pt es c) sent);
 }
 
+-- the invariant after each step
 pub invariant : (first : List ℕ) (steps : List Step) → MeetsFacts first steps → Invariant first (cluster_after steps) (ghost_of steps)
 invariant first [] meets = start first
 invariant first (s ∷ before) meets = next first (cluster_after before) (ghost_of before) s (invariant first before meets.1) meets.0
 
--- what a member's state at some moment still says of the cluster_after as it is now
+-- what a member's state at some moment still says of the execution as it is now
 record Stood (first : List ℕ) (w : Cluster) (g : Ghost) (m : ℕ) (x : Member) : Type 0 where
   leading : x.is_leader ≡ true → (m ≢ 0) × (g.leader x.term ≡ m)
   won : x.is_leader ≡ true → Share (length (g.won x.term)) (g.won x.term) x.log
   log : Sound g x.log x.term
   commit : (x.commit ≡ 0) ⊎ Committed first w g x.log x.commit x.term
 
+-- each member's state says so of its own moment
 stands : (first : List ℕ) (w : Cluster) (g : Ghost) → Invariant first w g → (m : ℕ) → Stood first w g m (w.member m)
 stands first w g inv m = record {
   leading = inv.leading m;
@@ -59,6 +62,7 @@ stands first w g inv m = record {
   commit = inv.commit m;
 }
 
+-- and of each later one
 still : (first : List ℕ) (w : Cluster) (g : Ghost) (s : Step) → Invariant first w g → Facts first w s → (m : ℕ) (x : Member) → Stood first w g m x → Stood first (after_step w s) (ghost_after w g s) m x
 still first w g s inv facts m x h =
     let held : x.is_leader ≡ true → g.leader x.term ≢ 0 = λ o z. (h.leading o).0 (sym (h.leading o).1 ∙ z) in
@@ -69,6 +73,7 @@ still first w g s inv facts m x h =
       commit = ⊎_elim inl (λ c. inr (committed_grows first w g s inv facts x.log x.log x.commit x.term x.term (le_refl x.term) (λ k. k.same) c)) h.commit;
     }
 
+-- what a member's state at a moment says at the end
 moment : (first : List ℕ) (steps : List Step) → MeetsFacts first steps → (v : Cluster) → IsMoment steps v → (m : ℕ) → Stood first (cluster_after steps) (ghost_of steps) m (v.member m)
 moment first [] meets v at = λ m. subst (λ (u : Cluster). Stood first opening (ghost_of []) m (u.member m)) (sym at) (stands first opening (ghost_of []) (start first) m)
 moment first (s ∷ before) meets v (inl e) = λ m. subst (λ (u : Cluster). Stood first (cluster_after (s ∷ before)) (ghost_of (s ∷ before)) m (u.member m)) (sym e) (stands first (cluster_after (s ∷ before)) (ghost_of (s ∷ before)) (invariant first (s ∷ before) meets) m)
@@ -81,18 +86,21 @@ front_of : (a b : List Entry) (n m : ℕ) → n ≤ m → Share n a b → IsPref
 front_of a b n m le both = (drop n (take m b), ap (λ l. l ++ drop n (take m b)) (share_take a b n both ∙ sym (take-take n m b le)) ∙ take-append-drop n (take m b))
 
 module _ (first : List ℕ) (steps : List Step) (meets : MeetsFacts first steps) (v w : Cluster) (at_v : IsMoment steps v) (at_w : IsMoment steps w) (m n : ℕ) where
-  pub one_office : (v.member m).is_leader ≡ true → (w.member n).is_leader ≡ true → (v.member m).term ≡ (w.member n).term → m ≡ n
-  one_office om on same =
+  -- No two members lead in one term.
+  pub one_leader : (v.member m).is_leader ≡ true → (w.member n).is_leader ≡ true → (v.member m).term ≡ (w.member n).term → m ≡ n
+  one_leader om on same =
       let hm = moment first steps meets v at_v m in let hn = moment first steps meets w at_w n in
       sym (hm.leading om).1 ∙ ap (ghost_of steps).leader same ∙ (hn.leading on).1
 
+  -- Two logs that have the same term at an index are equal up to it.
   pub equal_prefixes : (i t : ℕ) → HasTerm (v.member m).log i t → HasTerm (w.member n).log i t → take i (v.member m).log ≡ take i (w.member n).log
   equal_prefixes i t hm hn =
       let lm = (moment first steps meets v at_v m).log in let ln = (moment first steps meets w at_w n).log in
       share_take (v.member m).log (w.member n).log i (reach_at (v.member m).log (w.member n).log i t (sound_matches (ghost_of steps) (v.member m).log (w.member n).log (v.member m).term (w.member n).term lm ln) hm hn)
 
-  pub later_offices : (w.member n).is_leader ≡ true → (v.member m).term < (w.member n).term → IsPrefixOf (committed (v.member m)) (w.member n).log
-  later_offices leading less =
+  -- What a member has committed stands in the log of each leader of a later term.
+  pub later_leaders : (w.member n).is_leader ≡ true → (v.member m).term < (w.member n).term → IsPrefixOf (committed (v.member m)) (w.member n).log
+  later_leaders leading less =
       let hm = moment first steps meets v at_v m in let hn = moment first steps meets w at_w n in
       ⊎_elim
       (λ e. ((w.member n).log, ap (λ k. take k (v.member m).log ++ (w.member n).log) e))
@@ -105,7 +113,7 @@ module _ (first : List ℕ) (steps : List Step) (meets : MeetsFacts first steps)
       (share_less ((ghost_of steps).won (w.member n).term) (w.member n).log (v.member m).commit (length ((ghost_of steps).won (w.member n).term)) (share_length ((ghost_of steps).made c.term) ((ghost_of steps).won (w.member n).term) (v.member m).commit a) (hn.won leading)))))
       hm.commit
 
--- two committed lists, of which the one was committed by an leading of no greater term
+-- Of two committed lists, the one committed in the lower term is a front of the other or the other way round.
 ordered : (first : List ℕ) (w : Cluster) (g : Ghost) → Invariant first w g → (a b : List Entry) (n m u u' : ℕ) (x : Committed first w g a n u) (y : Committed first w g b m u') → x.term ≤ y.term → IsPrefixOf (take n a) (take m b) ⊎ IsPrefixOf (take m b) (take n a)
 ordered first w g inv a b n m u u' x y le =
     let later = complete first w g inv x.term x.place x.chosen y.term (inv.held y.term y.place y.chosen.entry y.chosen.there) le in
@@ -117,6 +125,7 @@ ordered first w g inv a b n m u u' x y le =
     (cases_lt n m)
 
 module _ (first : List ℕ) (steps : List Step) (meets : MeetsFacts first steps) (v w : Cluster) (at_v : IsMoment steps v) (at_w : IsMoment steps w) (m n : ℕ) where
+  -- Of two committed lists one is a prefix of the other.
   pub committed_prefixes : IsPrefixOf (committed (v.member m)) (committed (w.member n)) ⊎ IsPrefixOf (committed (w.member n)) (committed (v.member m))
   committed_prefixes =
       let inv = invariant first steps meets in
@@ -132,7 +141,7 @@ module _ (first : List ℕ) (steps : List Step) (meets : MeetsFacts first steps)
       (moment first steps meets v at_v m).commit
 
 module _ (first : List ℕ) (steps : List Step) (meets : MeetsFacts first steps) (v : Cluster) (at_v : IsMoment steps v) (m i : ℕ) where
-  -- each committed entry is held at the end by a majority of the configuration in force for it, or of a neighbour
+  -- Each committed entry is held at the end by a quorum of the configuration in force for it, or of an adjacent one.
   pub held_at_end : i < (v.member m).commit → (members : List ℕ) × AreAdjacent (configuration_after first (take (suc i) (v.member m).log)) members × HasQuorum members (λ n. take (suc i) ((cluster_after steps).member n).log ≡ take (suc i) (v.member m).log)
   held_at_end less = ⊎_elim
       (λ (e : (v.member m).commit ≡ 0). absurd (omega (arith, e, less)))
@@ -145,8 +154,9 @@ module _ (first : List ℕ) (steps : List Step) (meets : MeetsFacts first steps)
       ))
       (moment first steps meets v at_v m).commit
 
--- One history
+-- One history.
 
+-- Prefixes of prefixes are prefixes.
 prefix_trans : (a b c : List Entry) → IsPrefixOf a b → IsPrefixOf b c → IsPrefixOf a c
 prefix_trans a b c (p, e) (q, f) = (p ++ q, sym (append_assoc a p q) ∙ ap (λ l. l ++ q) e ∙ f)
 
@@ -172,6 +182,7 @@ all_after s before history own old v (inr at) = λ m. old v at m
 all_after s before history own old v (inl e) = λ m. subst (λ (x : Cluster). IsPrefixOf (committed (x.member m)) history) (sym e)
     (at_each (λ n x. IsPrefixOf (committed x) history) (cluster_after before) s own (λ n ne. old (cluster_after before) (last_moment before) n) m)
 
+-- By induction on the steps: the longer of the one before and the actor's.
 longest : (first : List ℕ) (steps : List Step) → MeetsFacts first steps → Longest first steps
 longest first [] meets = record {
   at = opening;
@@ -199,6 +210,7 @@ longest first (s ∷ before) meets =
     })
     (committed_prefixes first (s ∷ before) meets h.at now (inr h.is_moment) (inl refl) h.of s.actor)
 
+-- No commit lies past its log.
 commit_within : (first : List ℕ) (steps : List Step) → MeetsFacts first steps → (v : Cluster) → IsMoment steps v → (m : ℕ) → (v.member m).commit ≤ length (v.member m).log
 commit_within first steps meets v at m =
     let x = v.member m in
@@ -208,6 +220,7 @@ commit_within first steps meets v at m =
     (λ (c : Committed first (cluster_after steps) g x.log x.commit x.term). share_length (g.made c.term) x.log x.commit (share_sym x.log (g.made c.term) x.commit c.same))
     (moment first steps meets v at m).commit
 
+-- There is one list of which each committed list is a prefix.
 pub one_history : (first : List ℕ) (steps : List Step) → MeetsFacts first steps
     → (history : List Entry) × ((v : Cluster) → IsMoment steps v → (m : ℕ) → IsPrefixOf (committed (v.member m)) history × ((v.member m).commit ≤ length (v.member m).log))
 one_history first steps meets = let h = longest first steps meets in (committed (h.at.member h.of), λ v at m. (h.all v at m, commit_within first steps meets v at m))

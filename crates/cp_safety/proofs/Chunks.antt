@@ -20,6 +20,7 @@ tracked_senders first steps meets f f' t i i' it it' ms ms' has has' =
     senders first (untracked_steps steps) (tracked_meets first steps meets) f f' t i i' it it' ms ms'
     (subst (λ l. Contains l (Snapshot f t i it ms)) same has) (subst (λ l. Contains l (Snapshot f' t i' it' ms')) same has')
 
+-- Lists with equal fronts of one length.
 same_front : (a b c d : List ℕ) → length a ≡ length b → a ++ c ≡ b ++ d → a ≡ b
 same_front [] [] c d long e = refl
 same_front [] (y ∷ b) c d long e = absurd (omega (arith, long))
@@ -91,6 +92,7 @@ module _ (reader : SnapshotReader) (first : List ℕ) (before : List ChunkedStep
     delivered : (m : Message) → seen_got index_term members s.got ≡ Some m → Contains (tracked_after first b.tracked).sent m
     joins : (t i : ℕ) (joined : List ℕ) → Joins (chunked_after first before) s t i true joined → (index_term ≡ reader.term_of joined) × (members ≡ reader.members_of joined)
 
+  -- An index term and members by which the chunk that came can be read: those of the sender's text.
   reading : (o : Option Wire) → s.got ≡ o → Reading
   reading None e = record {
     index_term = 0;
@@ -125,6 +127,7 @@ module _ (reader : SnapshotReader) (first : List ℕ) (before : List ChunkedStep
   abbrev seen : TrackedStep
   seen = seen_step read.index_term read.members s
 
+  -- Read so, the step meets the facts of tracked members.
   seen_meets : TrackedFacts (tracked_after first b.tracked) seen
   seen_meets = facts.tracked (tracked_after first b.tracked) b.same read.index_term read.members read.delivered read.joins
 
@@ -154,6 +157,7 @@ module _ (reader : SnapshotReader) (first : List ℕ) (before : List ChunkedStep
   abbrev next_text : ℕ → ℕ → List ℕ
   next_text = put b.text s.actor (put (b.text s.actor) s.after.tracked.base s.after.snapshot)
 
+  -- the actor's own text
   text_now : (f i : ℕ) → f ≡ s.actor → i ≡ s.after.tracked.base → next_text f i ≡ s.after.snapshot
   text_now f i ef ei = ap (λ g. g i) (put_same b.text s.actor (put (b.text s.actor) s.after.tracked.base s.after.snapshot) f ef) ∙ put_same (b.text s.actor) s.after.tracked.base s.after.snapshot i ei
 
@@ -177,6 +181,7 @@ module _ (reader : SnapshotReader) (first : List ℕ) (before : List ChunkedStep
       up : ((chunked_after first before).member s.actor).tracked.base ≤ s.after.tracked.base
       up = ⊎_elim (λ (same : SameSnapshot (chunked_after first before) s). le_of_eq (sym same.base)) (λ (new : NewSnapshot reader (chunked_after first before) s). le_of_lt new.above) facts.snapshots
 
+  -- The actor's snapshot spells what stands with its base.
   own_begins : 0 < s.after.tracked.base → (reader.term_of s.after.snapshot ≡ s.after.tracked.base_term) × (reader.members_of s.after.snapshot ≡ s.after.tracked.base_members)
   own_begins pos = ⊎_elim
       (λ (same : SameSnapshot (chunked_after first before) s).
@@ -206,6 +211,7 @@ module _ (reader : SnapshotReader) (first : List ℕ) (before : List ChunkedStep
   seen_now x uncut has = Contains-append_right (tracked_after first b.tracked).sent (if s.cut then [] else sends_seen) (seen_sent s.after.tracked x)
       (subst (λ z. Contains (if z then [] else sends_seen) (seen_sent s.after.tracked x)) (sym uncut) (contains_map (seen_sent s.after.tracked) s.sends x has))
 
+  -- What was sent of a snapshot is a piece of the sender's text, and stands for the whole of it.
   next_chunk : (f t i offset : ℕ) (last : Bool) (bytes : List ℕ) → Contains (chunked_after first after).sent (Chunk f t i offset last bytes)
       → IsPiece (next_text f i) offset last bytes × (i ≤ ((chunked_after first after).member f).tracked.base)
           × Contains (tracked_after first (seen ∷ b.tracked)).sent (Snapshot f t i (reader.term_of (next_text f i)) (reader.members_of (next_text f i))) × HadSnapshot first after f i (next_text f i)
@@ -242,6 +248,7 @@ module _ (reader : SnapshotReader) (first : List ℕ) (before : List ChunkedStep
   abbrev FrontReceived : Received → Type 0
   FrontReceived r = (f : ℕ) × (i : ℕ) × (offset : ℕ) × (last : Bool) × (bytes : List ℕ) × Contains (chunked_after first after).sent (Chunk f r.term i offset last bytes) × (i ≡ r.index) × IsFront (next_text f i) r.bytes
 
+  -- What was received is a front of the text of one that sent it.
   front_stays : (m : ℕ) (r : Received) → ((chunked_after first before).member m).received ≡ Some r → FrontReceived r
   front_stays m r is =
       let (f, i, offset, last, bytes, sent, index, front) = b.shown.received m r is in
@@ -285,6 +292,7 @@ module _ (reader : SnapshotReader) (first : List ℕ) (before : List ChunkedStep
     shown = next_shown;
   }
 
+-- By induction on the steps.
 beside : (reader : SnapshotReader) (first : List ℕ) (steps : List ChunkedStep) → MeetsChunkedFacts reader first steps → Beside reader first steps
 beside reader first [] meets = record {
   tracked = [];
@@ -305,6 +313,7 @@ pub chunked_executions : (reader : SnapshotReader) (first : List ℕ) (steps : L
     → (tracked : List TrackedStep) × MeetsTrackedFacts first tracked × ((m : ℕ) → (tracked_after first tracked).member m ≡ ((chunked_after first steps).member m).tracked)
 chunked_executions reader first steps meets = let b = beside reader first steps meets in (b.tracked, b.meets, b.same)
 
+-- What is joined is a snapshot that the sender had.
 pub chunks_join : (reader : SnapshotReader) (first : List ℕ) (s : ChunkedStep) (steps : List ChunkedStep) → MeetsChunkedFacts reader first (s ∷ steps)
     → (t i : ℕ) (joined : List ℕ) (j : Joins (chunked_after first steps) s t i true joined) → HadSnapshot first steps j.sender i joined
 chunks_join reader first s steps meets t i joined j =

@@ -28,6 +28,7 @@ record Beside (first : List ℕ) (steps : List Step) : Type 0 where
 stands_for : (first : List ℕ) (b : Member) (l : List Entry) → StandsForLog first b l → StandsFor first b (standing b l)
 stands_for first b l f = record { term = refl; commit = refl; leader = refl; log = f }
 
+-- By induction on the steps.
 beside : (first : List ℕ) (steps : List Step) → MeetsFacts first steps → Beside first steps
 beside first [] meets = record {
   plain = [];
@@ -76,6 +77,7 @@ pub record Known (w : Cluster) : Type 0 where
   pub asked : (c t lt li : ℕ) → Contains w.sent (Vote c t lt li) → t ≤ (w.member c).term
   pub above : (m : ℕ) → (w.member m).base ≤ (w.member m).commit
 
+-- Read off the execution on whole logs.
 pub known : (first : List ℕ) (steps : List Step) → MeetsFacts first steps → Known (cluster_after first steps)
 known first steps meets =
     let b = beside first steps meets in

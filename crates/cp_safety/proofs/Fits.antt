@@ -12,16 +12,19 @@ use Rattle.cp_agreement.proofs.Logs.{Share, get-append_left, get-drop, get-take,
 use Rattle.cp_safety.proofs.Lists.{configuration_after-append, has_term_same}
 
 module _ (first : List ℕ) (b : Member) (l : List Entry) (fit : StandsForLog first b l) where
+  -- the log after the base
   pub at_log : (k : ℕ) → slice_get b.log k ≡ slice_get l (b.base + k)
   at_log k = ap (λ r. slice_get r k) fit.log ∙ get-drop l b.base k
 
   pub whole_length : length l ≡ b.base + length b.log
   whole_length = omega (arith, fit.fits, length-drop b.base l, ap length fit.log)
 
+  -- What the member knows, the whole log has.
   pub knows_has : (i t : ℕ) → KnowsTerm b i t → HasTerm l i t
   knows_has i t (inl (ei, et)) = subst (λ n. HasTerm l n t) (sym ei) (subst (λ u. HasTerm l b.base u) (sym et) fit.base_term)
   knows_has i t (inr (k, e, (x, at, xt))) = subst (λ n. HasTerm l n t) (sym e) (x, sym (at_log k) ∙ at, xt)
 
+  -- What the whole log has from the base on, the member knows.
   pub has_knows : (i t : ℕ) → b.base ≤ i → HasTerm l i t → KnowsTerm b i t
   has_knows i t le has = ⊎_elim
       (λ (e : i ≡ b.base). inl (e, has_term_same l b.base t b.base_term (subst (λ n. HasTerm l n t) e has) fit.base_term))
@@ -35,9 +38,11 @@ module _ (first : List ℕ) (b : Member) (l : List Entry) (fit : StandsForLog fi
   pub ends_has : (t i : ℕ) → LogEndsAt b t i → EndsAt l t i
   ends_has t i (e, knows) = (omega (arith, whole_length), knows_has i t knows)
 
+  -- One configuration.
   pub members_is : configuration_of b ≡ configuration_after first l
   members_is = ap₂ configuration_after fit.members fit.log ∙ sym (configuration_after-append first (take b.base l) (drop b.base l)) ∙ ap (configuration_after first) (take-append-drop b.base l)
 
+-- A replacement keeps the front before it.
 pub keep_front : (l rest : List Entry) (n m : ℕ) → m ≤ n → m ≤ length l → Share m (take n l ++ rest) l
 keep_front l rest n m le fits k less =
     let x = has_place l k (omega arith) in
@@ -54,6 +59,7 @@ pub record Difference (l es : List Entry) : Type 0 where
   pub same : HasTerms l 0 es d
   pub differs : (length l ≡ 0 + d) ⊎ ((e : Entry) × (slice_get l (0 + d) ≡ Some e) × (e.term ≢ entry.term))
 
+-- The first difference is found by search.
 pub first_difference : (l es : List Entry) (n : ℕ) → n ≤ length es → HasTerms l 0 es n ⊎ Difference l es
 first_difference l es zero le = inl (λ k e less is. absurd (omega arith))
 first_difference l es (suc n) le = ⊎_elim more inr (first_difference l es n (omega arith))

@@ -10,7 +10,7 @@ use Rattle.cp_rules.specs.Clusters.{Member, Cluster, Step, IsMoment, cluster_aft
 use Rattle.cp_rules.specs.Facts.{KnowsTerm, MeetsFacts}
 use Rattle.cp_agreement.specs.WholeLogs as whole
 use Rattle.cp_agreement.proofs.Logs.{get-append_left, get-take, has_place}
-use Rattle.cp_agreement.proofs.Moments.{one_office as whole_one_leader, equal_prefixes as whole_equal_prefixes, later_offices as whole_later_leaders, one_history as whole_one_history, held_at_end as whole_held_at_end}
+use Rattle.cp_agreement.proofs.Moments.{one_leader as whole_one_leader, equal_prefixes as whole_equal_prefixes, later_leaders as whole_later_leaders, one_history as whole_one_history, held_at_end as whole_held_at_end}
 use Rattle.cp_safety.specs.Standing.{StandsForLog, StandsFor, StandsThrough}
 use Rattle.cp_safety.specs.Laws.{HasEntry, AgreeUpTo, CommitsFrontOf, IsHistory, IsHeldBy}
 use Rattle.cp_safety.proofs.Lists.{drop-take_add, has_term_same}
@@ -73,6 +73,7 @@ agree first a b la lb fa fb n same i le = (entries, terms)
     terms t u ka kb = has_term_same lb i t u (same_term la lb n i t same le (knows_has first a la fa i t ka)) (knows_has first b lb fb i u kb)
 
 module _ (first : List ℕ) (steps : List Step) (meets : MeetsFacts first steps) (v w : Cluster) (at_v : IsMoment first steps v) (at_w : IsMoment first steps w) (m n : ℕ) where
+  -- The laws, each by the law of that name on whole logs.
   pub one_office : (v.member m).is_leader ≡ true → (w.member n).is_leader ≡ true → (v.member m).term ≡ (w.member n).term → m ≡ n
   one_office leads_m leads_n same =
       let (plain, facts, through) = whole_logs first steps meets in
@@ -123,6 +124,7 @@ module _ (first : List ℕ) (steps : List Step) (plain : List whole.Step) (facts
   front : (x : whole.Cluster) → whole.IsMoment plain x → (m : ℕ) → (take (x.member m).commit (x.member m).log ≡ take (x.member m).commit history) × ((x.member m).commit ≤ length history)
   front x at m = let h = (whole_one_history first plain facts).1 x at m in prefix_front (x.member m).log history (x.member m).commit h.1 h.0
 
+  -- The history of the execution on whole logs is that of this one.
   is_history : IsHistory first steps history
   is_history v at m =
       let x = at_once first steps plain through v at in
@@ -146,6 +148,7 @@ module _ (first : List ℕ) (steps : List Step) (plain : List whole.Step) (facts
       ))
       (cases_lt place a.base)
 
+  -- Each committed place of it is held at the end.
   held : (v : Cluster) → IsMoment first steps v → (m place : ℕ) → place < (v.member m).commit
       → (members : List ℕ) × AreAdjacent (configuration_at first history (suc place)) members × HasQuorum members (λ n. IsHeldBy history place ((cluster_after first steps).member n))
   held v at m place less =

@@ -35,6 +35,7 @@ drop_all zero (x ∷ l) le = absurd (omega arith)
 drop_all (suc n) [] le = refl
 drop_all (suc n) (x ∷ l) le = drop_all n l (omega arith)
 
+-- The configuration after two logs in a row.
 pub configuration_after-append : (first : List ℕ) (a b : List Entry) → configuration_after first (a ++ b) ≡ configuration_after (configuration_after first a) b
 configuration_after-append first [] b = refl
 configuration_after-append first (e ∷ a) b = configuration_after-append (members_or (members_in e.body) first) a b

@@ -29,6 +29,7 @@ to_whole l commit (Snapshot f t i it ms) = Append f t 0 0 (take i l) commit
 to_whole l commit (Done v to t j) = Appended v to t j
 to_whole l commit Other = Other
 
+-- Such a message stands for itself.
 pub same_message : (l : List Entry) (commit : ℕ) (m : Message) → SaysTheSame m → to_whole l commit m ≡ m
 same_message l commit (Vote c t lt li) same = refl
 same_message l commit (Voted v c t) same = refl
@@ -53,13 +54,16 @@ stands_behind l commit sends m (Snapshot f t i it ms) at e = ForSnapshot f t i i
 stands_behind l commit sends m (Done v to t j) at e = ForDone v to t j at e
 stands_behind l commit sends m Other at e = AsItIs (subst (Contains sends) e at)
 
+-- What stands behind a message of the cluster on whole logs.
 pub what_stands : (l : List Entry) (commit : ℕ) (sends : List Message) (m : Message) → Contains (map (to_whole l commit) sends) m → Stands l commit sends m
 what_stands l commit sends m has = let x = contains_unmap (to_whole l commit) sends m has in stands_behind l commit sends m x.0 x.1 x.2
 
 
+-- the member that one stands for, with this whole log
 abbrev pub standing : Member → List Entry → whole.Member
 standing b l = record { term = b.term; vote = b.vote; log = l; commit = b.commit; is_leader = b.is_leader }
 
+-- the cluster that one stands for
 abbrev pub stand : Cluster → (ℕ → List Entry) → List Message → whole.Cluster
 stand w logs sent = record { member = λ m. standing (w.member m) (logs m); sent = sent }
 
@@ -74,6 +78,7 @@ pub record Carries (first : List ℕ) (sent : List Message) (f t i it : ℕ) (ms
   pub members : ms ≡ configuration_after first entries
   pub is_sent : Contains sent (Append f t 0 0 entries commit)
 
+-- What was sent, on both sides.
 pub record Heard (first : List ℕ) (w : Cluster) (sent : List Message) : Type 0 where
   pub plain : (m : Message) → SaysTheSame m → Contains w.sent m → Contains sent m
   pub asked : (c t lt li : ℕ) → Contains sent (Vote c t lt li) → Contains w.sent (Vote c t lt li)
@@ -96,6 +101,7 @@ received_as_it_is first w sent heard x same has = record {
   snapshot = λ f t i it ms e. absurd (subst SaysTheSame (same_Some x (Snapshot f t i it ms) e) same);
 }
 
+-- What came, as the whole logs see it.
 pub receive : (first : List ℕ) (w : Cluster) (sent : List Message) → Heard first w sent → (o : Option Message) → ((m : Message) → o ≡ Some m → Contains w.sent m) → Received first sent o
 receive first w sent heard None came = record { got = None; delivered = λ m e. absurd (cc); plain = λ m p e. absurd (cc); snapshot = λ f t i it ms e. absurd (cc) }
 receive first w sent heard (Some (Vote c t lt li)) came = received_as_it_is first w sent heard (Vote c t lt li) tt (came (Vote c t lt li) refl)

@@ -24,6 +24,7 @@ module _ (first : List ℕ) (w : Cluster) (logs : ℕ → List Entry) (sent : Li
   abbrev pub whole_step : List Entry → whole.Step
   whole_step l = record { actor = s.actor; got = r.got; leads = s.leads; after = standing s.after l; sends = map (to_whole l s.after.commit) s.sends }
 
+  -- The whole log that the step leaves, how it came about, and what is known of it up to the base.
   pub record Outcome : Type 0 where
     pub log : List Entry
     fits : StandsForLog first s.after log
@@ -31,6 +32,7 @@ module _ (first : List ℕ) (w : Cluster) (logs : ℕ → List Entry) (sent : Li
     pub below : ((s.after.base ≤ (w.member s.actor).commit) × Share s.after.base log (logs s.actor) × ((f t i it : ℕ) (ms : List ℕ) → s.got ≡ Some (Snapshot f t i it ms) → Share (w.member s.actor).commit log (logs s.actor)))
         ⊎ (InstallsSnapshot w s × Share s.after.base log (g.made s.after.term))
 
+  -- No commit lies past the whole log.
   commit_within : (w.member s.actor).commit ≤ length (logs s.actor)
   commit_within = ⊎_elim (λ e. omega (arith, e)) (λ (c : Committed first (stand w logs sent) g (logs s.actor) (w.member s.actor).commit (w.member s.actor).term). share_length (g.made c.term) (logs s.actor) (w.member s.actor).commit (share_sym (logs s.actor) (g.made c.term) (w.member s.actor).commit c.same)) (inv.commit s.actor)
 
@@ -47,6 +49,7 @@ module _ (first : List ℕ) (w : Cluster) (logs : ℕ → List Entry) (sent : Li
   came_plain : GotAppend w s → whole.GotAppend (stand w logs sent) (whole_step (logs s.actor))
   came_plain c = record { sender = c.sender; previous = c.previous; previous_term = c.previous_term; entries = c.entries; commit = c.commit; got = r.plain (Append c.sender s.after.term c.previous c.previous_term c.entries c.commit) tt c.got }
 
+  -- The Append that came is a piece of the leader's log.
   piece : (c : GotAppend w s) → (g.leader s.after.term ≢ 0) × HasTerm (g.made s.after.term) c.previous c.previous_term × ((k : ℕ) (e : Entry) → slice_get c.entries k ≡ Some e → slice_get (g.made s.after.term) (c.previous + k) ≡ Some e)
   piece c = inv.append c.sender s.after.term c.previous c.previous_term c.entries c.commit (r.delivered (Append c.sender s.after.term c.previous c.previous_term c.entries c.commit) (r.plain (Append c.sender s.after.term c.previous c.previous_term c.entries c.commit) tt c.got))
 
@@ -66,6 +69,7 @@ module _ (first : List ℕ) (w : Cluster) (logs : ℕ → List Entry) (sent : Li
         above = facts.above_base;
       }
 
+  -- The cases of a log's change, one by one.
   keeps : KeepsLog w s → Outcome
   keeps k =
       let old = fit s.actor in
@@ -196,6 +200,7 @@ module _ (first : List ℕ) (w : Cluster) (logs : ℕ → List Entry) (sent : Li
       let h = inv.append f s.after.term 0 0 c.entries c.commit c.is_sent in
       (h.0, λ k less. let x = has_place c.entries k less in (x.0, x.1, ap (slice_get (g.made s.after.term)) (sym (zero-add k)) ∙ h.2 k x.0 x.1))
 
+  -- An installed snapshot: where the index has its term nothing changes in the whole log, else the log becomes the sent front.
   installs : InstallsSnapshot w s → Outcome
   installs n =
       let old = fit s.actor in
@@ -266,15 +271,18 @@ module _ (first : List ℕ) (w : Cluster) (logs : ℕ → List Entry) (sent : Li
           let x = all j has.0 (omega (arith, long)) has.1 in
           (x.0, ap (slice_get (logs s.actor)) (sym (zero-add j)) ∙ x.1, x.2 ∙ has.2)
 
+  -- All cases.
   pub outcome : Outcome
   outcome = ⊎_elim keeps (⊎_elim creates (⊎_elim follows_above (⊎_elim follows_below (⊎_elim takes_snapshot installs)))) facts.log
 
+  -- Up to the base the log is the leader's, where an Append of it came.
   low_made : (o : Outcome) → GotAppend w s → Share s.after.base o.log (g.made s.after.term)
   low_made o c = ⊎_elim
       (λ x. share_trans o.log (logs s.actor) (g.made s.after.term) s.after.base x.1 (share_less (logs s.actor) (g.made s.after.term) s.after.base (w.member s.actor).commit x.0 (agree (piece c).0)))
       (λ x. absurd (let a = x.0.got in let b = c.got in cc))
       o.below
 
+  -- What an acknowledgement says of the whole log.
   abbrev acknowledges : (o : Outcome) (j : ℕ) → Acknowledges w s j → whole.Acknowledges (stand w logs sent) (whole_step o.log) j
   acknowledges o j a = record {
     came = record { sender = a.came.sender; previous = a.came.previous; previous_term = a.came.previous_term; entries = a.came.entries; commit = a.came.commit; got = r.plain (Append a.came.sender s.after.term a.came.previous a.came.previous_term a.came.entries a.came.commit) tt a.came.got };
@@ -303,6 +311,7 @@ module _ (first : List ℕ) (w : Cluster) (logs : ℕ → List Entry) (sent : Li
   installed_made : (o : Outcome) → InstallsSnapshot w s → Share s.after.base o.log (g.made s.after.term)
   installed_made o n = ⊎_elim (λ x. absurd (let a = n.above in let b = x.0 in omega (arith, a, b))) (λ x. x.1) o.below
 
+  -- A Done acknowledges the whole front.
   finishes : (o : Outcome) (j : ℕ) → Finishes w s j → whole.Acknowledges (stand w logs sent) (whole_step o.log) j
   finishes o j f =
       let got = r.snapshot f.sender s.after.term j f.index_term f.members f.got in
@@ -341,6 +350,7 @@ module _ (first : List ℕ) (w : Cluster) (logs : ℕ → List Entry) (sent : Li
           let e1 : v' ≡ v = cc in let e2 : to' ≡ to = cc in let e3 : t' ≡ t = cc in let e4 : j' ≡ j = cc in
           inr (subst (λ n. Contains s.sends (Done v to t n)) e4 (subst (λ n. Contains s.sends (Done v to n j')) e3 (subst (λ n. Contains s.sends (Done v n t' j')) e2 (subst (λ n. Contains s.sends (Done n to' t' j')) e1 at))))
 
+  -- What is sent in an Append or a Snapshot, a leader's whole log has.
   sends_append : (o : Outcome) (f t p pt : ℕ) (es : List Entry) (c : ℕ) → Contains (map (to_whole o.log s.after.commit) s.sends) (Append f t p pt es c) → whole.SendsAppend (whole_step o.log) f t p pt es c
   sends_append o f t p pt es c has = from (what_stands o.log s.after.commit s.sends (Append f t p pt es c) has)
     where
@@ -371,6 +381,7 @@ module _ (first : List ℕ) (w : Cluster) (logs : ℕ → List Entry) (sent : Li
           }
       from (ForDone v' to' t' j' at e) = absurd (cc)
 
+  -- An election is won on whole logs.
   wins : WinsElection w s → (l : List Entry) → whole.WinsElection first (stand w logs sent) (whole_step l)
   wins k l =
       let old = fit s.actor in
@@ -396,6 +407,7 @@ module _ (first : List ℕ) (w : Cluster) (logs : ℕ → List Entry) (sent : Li
           let up = (inv.made has.0.term).upto i e (share_at (logs s.actor) (g.made has.0.term) (suc j) i e root less is) in
           omega (arith, up, has.2, low)
 
+  -- A commit by a quorum.
   leader_commits : (o : Outcome) → LeaderCommits w s → whole.LeaderCommits first (stand w logs sent) (whole_step o.log)
   leader_commits o c = record {
     leads = c.leads;
@@ -409,6 +421,7 @@ module _ (first : List ℕ) (w : Cluster) (logs : ℕ → List Entry) (sent : Li
     );
   }
 
+  -- A commit by an Append or by an installed snapshot.
   follower_commits : (o : Outcome) → FollowerCommits w s ⊎ InstallsSnapshot w s → whole.FollowerCommits (stand w logs sent) (whole_step o.log)
   follower_commits o (inl c) = record { index = c.index; acknowledges = acknowledges o c.index c.acknowledges; told = c.told; reached = c.reached }
   follower_commits o (inr n) =

@@ -39,10 +39,12 @@ untracked_after_step w s = ⊎_elim
     (λ (e : s.cut ≡ false). rw e (λ i. record { member = fun_ext (untracked_put w.member s.actor s.after) i; sent = w.sent ++ s.sends }))
     (cases_Bool s.cut)
 
+-- The states are equal but for what is counted.
 pub untracked_after : (first : List ℕ) (steps : List TrackedStep) → untracked_cluster (tracked_after first steps) ≡ cluster_after first (untracked_steps steps)
 untracked_after first [] = refl
 untracked_after first (s ∷ before) = untracked_after_step (tracked_after first before) s ∙ ap (λ w. after_step w (untracked_step s)) (untracked_after first before)
 
+-- nothing is counted at first
 tracks_opening : (first : List ℕ) → TracksHold (tracked_opening first)
 tracks_opening first = record {
   fresh = λ m h. absurd (cc);
@@ -53,6 +55,7 @@ tracks_opening first = record {
 
 -- the member's own snapshot changes no term that it still knows, nor the end of its log
 module _ (w : Cluster) (s : Step) where
+  -- What the member knows after its own snapshot, it knew.
   rests_knows : KeepsLog w s ⊎ TakesSnapshot w s → (t i : ℕ) → KnowsTerm s.after i t → KnowsTerm (w.member s.actor) i t
   rests_knows (inl k) t i (inl (ei, et)) = inl (ei ∙ k.0.0, et ∙ k.0.1)
   rests_knows (inl k) t i (inr (n, e, x)) = inr (n, e ∙ ap (λ b. suc (b + n)) k.0.0, (x.0, ap (λ l. slice_get l n) (sym k.1) ∙ x.1, x.2))
@@ -80,6 +83,7 @@ module _ (w : Cluster) (s : Step) where
       let same : n ≡ m = omega (arith, e, f) in
       sym x.2 ∙ ap (λ z. z.term) (same_Some x.0 y.0 (sym x.1 ∙ ap (slice_get b.log) same ∙ y.1)) ∙ y.2
 
+  -- The end of its log stays.
   rests_ends : KeepsLog w s ⊎ TakesSnapshot w s → (t i : ℕ) → LogEndsAt (w.member s.actor) t i → LogEndsAt s.after t i
   rests_ends rests t i (e, knows) =
       let end : i ≡ s.after.base + length s.after.log = ⊎_elim
@@ -97,6 +101,7 @@ module _ (w : TrackedCluster) (s : TrackedStep) (now : Known (untracked_cluster 
       (λ e. facts.delivered (Voted v s.actor s.after.term) e)
       counts
 
+  -- Whoever wins by its counted votes, or alone, wins the election.
   wins_election : WinsByVotes w s ⊎ WinsAlone w s → WinsElection (untracked_cluster w) (uncut_step s)
   wins_election (inl wins) = record {
     vote = wins.vote;
@@ -111,6 +116,7 @@ module _ (w : TrackedCluster) (s : TrackedStep) (now : Known (untracked_cluster 
     quorum = (wins.quorum.0, wins.quorum.1, λ v chosen. inl (wins.quorum.2 v chosen));
   }
 
+  -- A matched index was acknowledged.
   matched_upto : (f n : ℕ) → MatchedUpto w s f n → (n ≡ 0) ⊎ HasAcknowledged (untracked_cluster w) f s.after.term n
   matched_upto f n (inl h) = ⊎_elim
       (λ e. inl (omega (arith, e, h.2)))
@@ -199,6 +205,7 @@ module _ (w : TrackedCluster) (s : TrackedStep) (now : Known (untracked_cluster 
       x.1)
       facts.log
 
+  -- The step that a crash cut off meets the facts.
   cut_meets : Facts (untracked_cluster w) (cut_step s)
   cut_meets = record {
     others = record {
@@ -223,6 +230,7 @@ module _ (w : TrackedCluster) (s : TrackedStep) (now : Known (untracked_cluster 
     };
   }
 
+  -- Cut off or not, the step meets the facts.
   step_meets : Facts (untracked_cluster w) (untracked_step s)
   step_meets = ⊎_elim
       (λ (e : s.cut ≡ true). rw e cut_meets)
@@ -253,6 +261,7 @@ module _ (w : TrackedCluster) (s : TrackedStep) (now : Known (untracked_cluster 
   rests : s.after.role ≡ Candidate → Rests w s
   rests role = ⊎_elim (λ r. r) (λ x. absurd (x.0 role)) facts.log
 
+  -- What members count stays true.
   next_tracks : TracksHold (tracked_after_step w s)
   next_tracks = record {
     fresh = each_tracked (λ m x. x.role ≡ Candidate → (t i : ℕ) → KnowsTerm (untracked x) i t → t < x.term)

@@ -1,4 +1,4 @@
-use Rattle.cp_agreement.proofs.Moments.{later_offices as law}
+use Rattle.cp_agreement.proofs.Moments.{later_leaders as law}
 use Rattle.cp_agreement.proofs.later_leaders.Goals as goal
 
 pub returns : goal.returns
