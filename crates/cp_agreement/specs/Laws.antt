@@ -35,7 +35,7 @@ abbrev pub HeldAtEnd : Type 0
 HeldAtEnd = (first : List ℕ) (steps : List Step) → MeetsFacts first steps → (v : Cluster) → IsMoment steps v → (m i : ℕ)
     → i < (v.member m).commit
     → (members : List ℕ) × AreAdjacent (configuration_at first (v.member m).log (suc i)) members
-        × HasQuorum members (λ n. take (suc i) ((cluster_after steps).member n).log ≡ take (suc i) (v.member m).log)
+    × HasQuorum members (λ n. take (suc i) ((cluster_after steps).member n).log ≡ take (suc i) (v.member m).log)
 
 -- Quorums of adjacent configurations have a common member.
 abbrev pub QuorumsMeet : Type 0

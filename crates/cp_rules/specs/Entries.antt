@@ -1,5 +1,5 @@
 -- An entry of a log, and the configuration that its bytes spell where it is a members entry.
-use Rattle.std.specs.Prelude.{ℕ, ◌≡◌, Bool, true, false, List, [], ◌∷◌, length, drop, Option, Some, None, if◌then◌else◌, ◌==◌, ◌&&◌, nat_lt}
+use Rattle.std.specs.Prelude.{ℕ, Bool, true, List, [], ◌∷◌, length, drop, Option, Some, None, if◌then◌else◌, ◌==◌, ◌&&◌, nat_lt}
 
 -- The term of the leader that created the entry, and the entry's bytes.
 pub record Entry : Type 0 where

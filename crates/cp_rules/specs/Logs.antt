@@ -1,5 +1,5 @@
 -- Words on logs. A log is a list, its oldest entry first. Indexes count from 1; index 0 is before the first entry and has term 0.
-use Rattle.std.specs.Prelude.{◌≡◌, ◌≢◌, ℕ, zero, suc, ◌+◌, ◌<◌, ◌≤◌, ◌⊎◌, List, [], ◌∷◌, ◌++◌, length, take, drop, Some, slice_get}
+use Rattle.std.specs.Prelude.{◌≡◌, ◌≢◌, ℕ, zero, suc, ◌+◌, ◌<◌, ◌≤◌, ◌⊎◌, List, ◌++◌, length, take, drop, Some, slice_get}
 use Rattle.cp_rules.specs.Entries.{Entry}
 
 abbrev pub HasTerm : List Entry → ℕ → ℕ → Type 0

@@ -1,12 +1,12 @@
 -- An execution with chunks stands for one with whole snapshots: a member has one snapshot of each index, and leaders of one term are one.
-use Rattle.std.proofs.Common.{◌≡◌, ◌≢◌, ℕ, zero, suc, ◌+◌, ◌<◌, ◌≤◌, ◌⊎◌, inl, inr, ⊎_elim, Bool, true, false, List, [], ◌∷◌, ◌++◌, length, map, refl, ap, ap₂, sym, ◌∙◌, arith, subst, Some, None, Option, Contains, if◌then◌else◌, le_refl, le_trans, le_of_lt, le_of_eq}
+use Rattle.std.proofs.Common.{◌≡◌, ◌≢◌, ℕ, ◌<◌, ◌≤◌, ◌⊎◌, inl, inr, ⊎_elim, Bool, true, false, List, [], ◌∷◌, ◌++◌, length, map, refl, ap, ap₂, sym, ◌∙◌, arith, subst, Some, None, Option, Contains, if◌then◌else◌, le_refl, le_trans, le_of_lt, le_of_eq}
 use Rattle.std.proofs.lemmas.Bool.{cases_eq, cases_Bool}
 use Rattle.std.proofs.lemmas.List.{append_assoc, append-nil}
 use Rattle.std.proofs.lemmas.List.Elements.{Contains-append_left, Contains-append_right, Contains-append_cases}
 use Rattle.std.proofs.lemmas.Option.{same_Some}
 use Rattle.cp_rules.specs.Clusters.{Message, Snapshot, Cluster, cluster_after, put}
-use Rattle.cp_safety.specs.Tracking.{TrackedMember, TrackedCluster, TrackedStep, TrackedFacts, MeetsTrackedFacts, restarted, tracked_after, tracked_after_step, untracked_cluster, untracked_steps}
-use Rattle.cp_safety.specs.Chunks.{SnapshotReader, Received, ChunkedMember, Wire, AsItIs, Chunk, ChunkedCluster, ChunkedStep, chunked_restart, chunked_after_step, chunked_after, seen_got, seen_sent, seen_step, chunked_before, Joins, IsPiece, SendsChunk, SameSnapshot, NewSnapshot, ChunkedFacts, MeetsChunkedFacts, HadSnapshot}
+use Rattle.cp_safety.specs.Tracking.{TrackedStep, TrackedFacts, MeetsTrackedFacts, restarted, tracked_after, untracked_steps}
+use Rattle.cp_safety.specs.Chunks.{SnapshotReader, Received, ChunkedMember, Wire, AsItIs, Chunk, ChunkedStep, chunked_restart, chunked_after, seen_got, seen_sent, seen_step, Joins, IsPiece, SameSnapshot, NewSnapshot, ChunkedFacts, MeetsChunkedFacts, HadSnapshot}
 use Rattle.cp_agreement.proofs.Ghost.{put_same, put_other}
 use Rattle.cp_safety.proofs.Lists.{contains_map}
 use Rattle.cp_safety.proofs.Executions.{senders}
@@ -50,11 +50,11 @@ record Shown (reader : SnapshotReader) (first : List ℕ) (steps : List ChunkedS
   now : (m : ℕ) → text m ((chunked_after first steps).member m).tracked.base ≡ ((chunked_after first steps).member m).snapshot
   begins : (m : ℕ) → 0 < ((chunked_after first steps).member m).tracked.base
       → (reader.term_of ((chunked_after first steps).member m).snapshot ≡ ((chunked_after first steps).member m).tracked.base_term)
-          × (reader.members_of ((chunked_after first steps).member m).snapshot ≡ ((chunked_after first steps).member m).tracked.base_members)
+      × (reader.members_of ((chunked_after first steps).member m).snapshot ≡ ((chunked_after first steps).member m).tracked.base_members)
   as_it_is : (m : Message) → Contains (chunked_after first steps).sent (AsItIs m) → Contains sent m
   chunk : (f t i offset : ℕ) (last : Bool) (bytes : List ℕ) → Contains (chunked_after first steps).sent (Chunk f t i offset last bytes)
       → IsPiece (text f i) offset last bytes × (i ≤ ((chunked_after first steps).member f).tracked.base)
-          × Contains sent (Snapshot f t i (reader.term_of (text f i)) (reader.members_of (text f i))) × HadSnapshot first steps f i (text f i)
+      × Contains sent (Snapshot f t i (reader.term_of (text f i)) (reader.members_of (text f i))) × HadSnapshot first steps f i (text f i)
   received : (m : ℕ) (r : Received) → ((chunked_after first steps).member m).received ≡ Some r
       → (f : ℕ) × (i : ℕ) × (offset : ℕ) × (last : Bool) × (bytes : List ℕ) × Contains (chunked_after first steps).sent (Chunk f r.term i offset last bytes) × (i ≡ r.index) × IsFront (text f i) r.bytes
 
@@ -214,12 +214,12 @@ module _ (reader : SnapshotReader) (first : List ℕ) (before : List ChunkedStep
   -- What was sent of a snapshot is a piece of the sender's text, and stands for the whole of it.
   next_chunk : (f t i offset : ℕ) (last : Bool) (bytes : List ℕ) → Contains (chunked_after first after).sent (Chunk f t i offset last bytes)
       → IsPiece (next_text f i) offset last bytes × (i ≤ ((chunked_after first after).member f).tracked.base)
-          × Contains (tracked_after first (seen ∷ b.tracked)).sent (Snapshot f t i (reader.term_of (next_text f i)) (reader.members_of (next_text f i))) × HadSnapshot first after f i (next_text f i)
+      × Contains (tracked_after first (seen ∷ b.tracked)).sent (Snapshot f t i (reader.term_of (next_text f i)) (reader.members_of (next_text f i))) × HadSnapshot first after f i (next_text f i)
   next_chunk f t i offset last bytes sent = ⊎_elim old new (sent_cases (Chunk f t i offset last bytes) sent)
     where
       old : Contains (chunked_after first before).sent (Chunk f t i offset last bytes)
           → IsPiece (next_text f i) offset last bytes × (i ≤ ((chunked_after first after).member f).tracked.base)
-              × Contains (tracked_after first (seen ∷ b.tracked)).sent (Snapshot f t i (reader.term_of (next_text f i)) (reader.members_of (next_text f i))) × HadSnapshot first after f i (next_text f i)
+          × Contains (tracked_after first (seen ∷ b.tracked)).sent (Snapshot f t i (reader.term_of (next_text f i)) (reader.members_of (next_text f i))) × HadSnapshot first after f i (next_text f i)
       old has =
           let h = b.shown.chunk f t i offset last bytes has in
           let same = sym (text_stays f i h.1) in (
@@ -231,7 +231,7 @@ module _ (reader : SnapshotReader) (first : List ℕ) (before : List ChunkedStep
 
       new : (s.cut ≡ false) × Contains s.sends (Chunk f t i offset last bytes)
           → IsPiece (next_text f i) offset last bytes × (i ≤ ((chunked_after first after).member f).tracked.base)
-              × Contains (tracked_after first (seen ∷ b.tracked)).sent (Snapshot f t i (reader.term_of (next_text f i)) (reader.members_of (next_text f i))) × HadSnapshot first after f i (next_text f i)
+          × Contains (tracked_after first (seen ∷ b.tracked)).sent (Snapshot f t i (reader.term_of (next_text f i)) (reader.members_of (next_text f i))) × HadSnapshot first after f i (next_text f i)
       new (uncut, has) =
           let c = facts.chunks f t i offset last bytes has in
           let text : next_text f i ≡ s.after.snapshot = text_now f i c.sender_is c.index_is in
@@ -258,8 +258,7 @@ module _ (reader : SnapshotReader) (first : List ℕ) (before : List ChunkedStep
   front_now : (r : Received) (last : Bool) → Joins (chunked_after first before) s r.term r.index last r.bytes → FrontReceived r
   front_now r last j =
       let came = facts.delivered (Chunk j.sender r.term r.index (length j.front) last j.bytes) j.got in
-      let h = b.shown.chunk j.sender r.term r.index (length j.front) last j.bytes came in
-      (
+      let h = b.shown.chunk j.sender r.term r.index (length j.front) last j.bytes came in (
         j.sender,
         r.index,
         length j.front,

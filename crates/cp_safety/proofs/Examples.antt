@@ -1,11 +1,11 @@
 -- The executions in full meet what they are said to meet. Each step's facts are given by what it did; what it sent, message by message.
-use Rattle.std.proofs.Common.{◌≡◌, ◌≢◌, ℕ, zero, suc, ◌+◌, ◌<◌, ◌≤◌, ◌⊎◌, inl, inr, ⊎_elim, Bool, true, false, List, [], ◌∷◌, ◌++◌, refl, ap, sym, ◌∙◌, arith, subst, Some, None, Option, slice_get, Contains, true≢false, ◌==◌, ◌||◌, zero-add}
+use Rattle.std.proofs.Common.{◌≡◌, ◌≢◌, ℕ, zero, suc, ◌+◌, ◌≤◌, ◌⊎◌, inl, inr, ⊎_elim, Bool, true, false, List, [], ◌∷◌, refl, ap, sym, ◌∙◌, arith, subst, Some, None, Option, slice_get, Contains, true≢false, ◌==◌, ◌||◌, zero-add}
 use Rattle.std.proofs.lemmas.Bool.{or_cases, cases_eq, ne_eqb}
 use Rattle.std.proofs.lemmas.Option.{same_Some, slice_get_within}
-use Rattle.cp_rules.specs.Entries.{Entry, members_in}
+use Rattle.cp_rules.specs.Entries.{Entry}
 use Rattle.cp_rules.specs.Clusters.{Member, Message, Vote, Voted, Append, Appended, Snapshot, Done, Other, Cluster, Step, cluster_after}
-use Rattle.cp_rules.specs.Facts.{before, KnowsTerm, LogEndsAt, KeepsLog, EntriesCreated, FollowsAbove, FollowsBelow, TakesSnapshot, InstallsSnapshot, SendsAppend, SendsVote, GivesVote, Acknowledges, LeaderCommits, FollowerCommits, OtherFacts, VotesGiven, LeadersElected, WinsElection, ChangesAreSingle, Facts, MeetsFacts}
-use Rattle.cp_safety.specs.Examples.{three, alone, entry, adds_two, adds_three, member_of, asks, votes, wins, acknowledges, commits, second_asks, says_yes, says_yes_again, first_wins, second_wins_too, leads_alone, adds_second, second_follows, commits_second, adds_third, second_follows_again, second_stands, third_votes, second_wins, elects_and_commits, votes_twice, stands_late, MeetsAllButVotes, MeetsWithAnyLog, LeadersElectedWithAnyLog, WinsWithAnyLog}
+use Rattle.cp_rules.specs.Facts.{before, KnowsTerm, LogEndsAt, KeepsLog, EntriesCreated, FollowsAbove, FollowsBelow, TakesSnapshot, InstallsSnapshot, SendsAppend, SendsVote, GivesVote, Acknowledges, LeaderCommits, FollowerCommits, OtherFacts, VotesGiven, LeadersElected, WinsElection, ChangesAreSingle, MeetsFacts}
+use Rattle.cp_safety.specs.Examples.{three, alone, entry, adds_two, adds_three, member_of, asks, votes, wins, acknowledges, commits, second_asks, says_yes, says_yes_again, first_wins, second_wins_too, leads_alone, adds_second, second_follows, commits_second, adds_third, second_follows_again, second_stands, third_votes, second_wins, elects_and_commits, votes_twice, stands_late, MeetsAllButVotes, MeetsWithAnyLog, LeadersElectedWithAnyLog}
 
 -- the two members of a quorum
 abbrev pair : ℕ → ℕ → ℕ → Bool
@@ -378,23 +378,49 @@ votes_gives : GivesVote (cluster_after three (asks ∷ [])) votes 2 1 1
 votes_gives = record { voter_is = refl; term_is = refl; vote = refl; last_term = 0; last_index = 0; asked = (0, omega arith, refl); own_term = 0; own_index = 0; own = (refl, inl (refl, refl)); up_to_date = inr (refl, omega arith) }
 
 pub elects_meets : MeetsFacts three elects_and_commits
-elects_meets =
-  (record { others = shown (cluster_after three (acknowledges ∷ wins ∷ votes ∷ asks ∷ [])) commits commits_shown; votes_given = votes_given (cluster_after three (acknowledges ∷ wins ∷ votes ∷ asks ∷ [])) commits tt; leaders_elected = leads_on (cluster_after three (acknowledges ∷ wins ∷ votes ∷ asks ∷ [])) commits refl refl refl },
-  (record { others = shown (cluster_after three (wins ∷ votes ∷ asks ∷ [])) acknowledges acknowledges_shown; votes_given = votes_given (cluster_after three (wins ∷ votes ∷ asks ∷ [])) acknowledges (tt, tt); leaders_elected = follows_only (cluster_after three (wins ∷ votes ∷ asks ∷ [])) acknowledges refl refl },
-  (record { others = shown (cluster_after three (votes ∷ asks ∷ [])) wins wins_shown; votes_given = votes_given (cluster_after three (votes ∷ asks ∷ [])) wins (tt, tt); leaders_elected = wins_elected },
-  (record { others = shown (cluster_after three (asks ∷ [])) votes votes_shown; votes_given = votes_given (cluster_after three (asks ∷ [])) votes (votes_gives, tt); leaders_elected = follows_only (cluster_after three (asks ∷ [])) votes refl refl },
-  (record { others = shown (cluster_after three []) asks asks_shown; votes_given = votes_given (cluster_after three []) asks (tt, tt); leaders_elected = follows_only (cluster_after three []) asks refl refl },
-  tt)))))
+elects_meets = (
+  record { others = shown (cluster_after three (acknowledges ∷ wins ∷ votes ∷ asks ∷ [])) commits commits_shown; votes_given = votes_given (cluster_after three (acknowledges ∷ wins ∷ votes ∷ asks ∷ [])) commits tt; leaders_elected = leads_on (cluster_after three (acknowledges ∷ wins ∷ votes ∷ asks ∷ [])) commits refl refl refl },
+  (
+    record { others = shown (cluster_after three (wins ∷ votes ∷ asks ∷ [])) acknowledges acknowledges_shown; votes_given = votes_given (cluster_after three (wins ∷ votes ∷ asks ∷ [])) acknowledges (tt, tt); leaders_elected = follows_only (cluster_after three (wins ∷ votes ∷ asks ∷ [])) acknowledges refl refl },
+    (
+      record { others = shown (cluster_after three (votes ∷ asks ∷ [])) wins wins_shown; votes_given = votes_given (cluster_after three (votes ∷ asks ∷ [])) wins (tt, tt); leaders_elected = wins_elected },
+      (
+        record { others = shown (cluster_after three (asks ∷ [])) votes votes_shown; votes_given = votes_given (cluster_after three (asks ∷ [])) votes (votes_gives, tt); leaders_elected = follows_only (cluster_after three (asks ∷ [])) votes refl refl },
+        (
+          record { others = shown (cluster_after three []) asks asks_shown; votes_given = votes_given (cluster_after three []) asks (tt, tt); leaders_elected = follows_only (cluster_after three []) asks refl refl },
+          tt,
+        ),
+      ),
+    ),
+  ),
+)
 
 pub votes_twice_meets : MeetsAllButVotes three votes_twice
-votes_twice_meets =
-  (shown (cluster_after three (first_wins ∷ says_yes_again ∷ says_yes ∷ second_asks ∷ asks ∷ [])) second_wins_too second_wins_too_shown, second_wins_too_elected,
-  (shown (cluster_after three (says_yes_again ∷ says_yes ∷ second_asks ∷ asks ∷ [])) first_wins first_wins_shown, first_wins_elected,
-  (shown (cluster_after three (says_yes ∷ second_asks ∷ asks ∷ [])) says_yes_again says_yes_again_shown, follows_only (cluster_after three (says_yes ∷ second_asks ∷ asks ∷ [])) says_yes_again refl refl,
-  (shown (cluster_after three (second_asks ∷ asks ∷ [])) says_yes says_yes_shown, follows_only (cluster_after three (second_asks ∷ asks ∷ [])) says_yes refl refl,
-  (shown (cluster_after three (asks ∷ [])) second_asks second_asks_shown, follows_only (cluster_after three (asks ∷ [])) second_asks refl refl,
-  (shown (cluster_after three []) asks asks_shown, follows_only (cluster_after three []) asks refl refl,
-  tt))))))
+votes_twice_meets = (
+  shown (cluster_after three (first_wins ∷ says_yes_again ∷ says_yes ∷ second_asks ∷ asks ∷ [])) second_wins_too second_wins_too_shown,
+  second_wins_too_elected,
+  (
+    shown (cluster_after three (says_yes_again ∷ says_yes ∷ second_asks ∷ asks ∷ [])) first_wins first_wins_shown,
+    first_wins_elected,
+    (
+      shown (cluster_after three (says_yes ∷ second_asks ∷ asks ∷ [])) says_yes_again says_yes_again_shown,
+      follows_only (cluster_after three (says_yes ∷ second_asks ∷ asks ∷ [])) says_yes_again refl refl,
+      (
+        shown (cluster_after three (second_asks ∷ asks ∷ [])) says_yes says_yes_shown,
+        follows_only (cluster_after three (second_asks ∷ asks ∷ [])) says_yes refl refl,
+        (
+          shown (cluster_after three (asks ∷ [])) second_asks second_asks_shown,
+          follows_only (cluster_after three (asks ∷ [])) second_asks refl refl,
+          (
+            shown (cluster_after three []) asks asks_shown,
+            follows_only (cluster_after three []) asks refl refl,
+            tt,
+          ),
+        ),
+      ),
+    ),
+  ),
+)
 
 follows_any : (w : Cluster) (s : Step) → LeadersElected w s → LeadersElectedWithAnyLog w s
 follows_any w s h = record { leads = h.leads; elected = λ l. ⊎_elim inl (λ (x : WinsElection w s). inr (record { vote = x.vote; quorum = x.quorum })) (h.elected l) }
@@ -409,14 +435,49 @@ third_gives : GivesVote (cluster_after alone (second_stands ∷ second_follows_a
 third_gives = record { voter_is = refl; term_is = refl; vote = refl; last_term = 1; last_index = 3; asked = (3, omega arith, refl); own_term = 0; own_index = 0; own = (refl, inl (refl, refl)); up_to_date = inl (omega arith) }
 
 pub stands_late_meets : MeetsWithAnyLog alone stands_late
-stands_late_meets =
-  (shown (cluster_after alone (third_votes ∷ second_stands ∷ second_follows_again ∷ adds_third ∷ commits_second ∷ second_follows ∷ adds_second ∷ leads_alone ∷ [])) second_wins second_wins_shown, votes_given (cluster_after alone (third_votes ∷ second_stands ∷ second_follows_again ∷ adds_third ∷ commits_second ∷ second_follows ∷ adds_second ∷ leads_alone ∷ [])) second_wins tt, second_wins_elected,
-  (shown (cluster_after alone (second_stands ∷ second_follows_again ∷ adds_third ∷ commits_second ∷ second_follows ∷ adds_second ∷ leads_alone ∷ [])) third_votes third_votes_shown, votes_given (cluster_after alone (second_stands ∷ second_follows_again ∷ adds_third ∷ commits_second ∷ second_follows ∷ adds_second ∷ leads_alone ∷ [])) third_votes (third_gives, tt), follows_any (cluster_after alone (second_stands ∷ second_follows_again ∷ adds_third ∷ commits_second ∷ second_follows ∷ adds_second ∷ leads_alone ∷ [])) third_votes (follows_only (cluster_after alone (second_stands ∷ second_follows_again ∷ adds_third ∷ commits_second ∷ second_follows ∷ adds_second ∷ leads_alone ∷ [])) third_votes refl refl),
-  (shown (cluster_after alone (second_follows_again ∷ adds_third ∷ commits_second ∷ second_follows ∷ adds_second ∷ leads_alone ∷ [])) second_stands second_stands_shown, votes_given (cluster_after alone (second_follows_again ∷ adds_third ∷ commits_second ∷ second_follows ∷ adds_second ∷ leads_alone ∷ [])) second_stands (tt, tt), follows_any (cluster_after alone (second_follows_again ∷ adds_third ∷ commits_second ∷ second_follows ∷ adds_second ∷ leads_alone ∷ [])) second_stands (follows_only (cluster_after alone (second_follows_again ∷ adds_third ∷ commits_second ∷ second_follows ∷ adds_second ∷ leads_alone ∷ [])) second_stands refl refl),
-  (shown (cluster_after alone (adds_third ∷ commits_second ∷ second_follows ∷ adds_second ∷ leads_alone ∷ [])) second_follows_again second_follows_again_shown, votes_given (cluster_after alone (adds_third ∷ commits_second ∷ second_follows ∷ adds_second ∷ leads_alone ∷ [])) second_follows_again tt, follows_any (cluster_after alone (adds_third ∷ commits_second ∷ second_follows ∷ adds_second ∷ leads_alone ∷ [])) second_follows_again (follows_only (cluster_after alone (adds_third ∷ commits_second ∷ second_follows ∷ adds_second ∷ leads_alone ∷ [])) second_follows_again refl refl),
-  (shown (cluster_after alone (commits_second ∷ second_follows ∷ adds_second ∷ leads_alone ∷ [])) adds_third adds_third_shown, votes_given (cluster_after alone (commits_second ∷ second_follows ∷ adds_second ∷ leads_alone ∷ [])) adds_third (tt, tt), follows_any (cluster_after alone (commits_second ∷ second_follows ∷ adds_second ∷ leads_alone ∷ [])) adds_third (leads_on (cluster_after alone (commits_second ∷ second_follows ∷ adds_second ∷ leads_alone ∷ [])) adds_third refl refl refl),
-  (shown (cluster_after alone (second_follows ∷ adds_second ∷ leads_alone ∷ [])) commits_second commits_second_shown, votes_given (cluster_after alone (second_follows ∷ adds_second ∷ leads_alone ∷ [])) commits_second tt, follows_any (cluster_after alone (second_follows ∷ adds_second ∷ leads_alone ∷ [])) commits_second (leads_on (cluster_after alone (second_follows ∷ adds_second ∷ leads_alone ∷ [])) commits_second refl refl refl),
-  (shown (cluster_after alone (adds_second ∷ leads_alone ∷ [])) second_follows second_follows_shown, votes_given (cluster_after alone (adds_second ∷ leads_alone ∷ [])) second_follows (tt, tt), follows_any (cluster_after alone (adds_second ∷ leads_alone ∷ [])) second_follows (follows_only (cluster_after alone (adds_second ∷ leads_alone ∷ [])) second_follows refl refl),
-  (shown (cluster_after alone (leads_alone ∷ [])) adds_second adds_second_shown, votes_given (cluster_after alone (leads_alone ∷ [])) adds_second (tt, tt), follows_any (cluster_after alone (leads_alone ∷ [])) adds_second (leads_on (cluster_after alone (leads_alone ∷ [])) adds_second refl refl refl),
-  (shown (cluster_after alone []) leads_alone leads_alone_shown, votes_given (cluster_after alone []) leads_alone tt, leads_alone_elected,
-  tt)))))))))
+stands_late_meets = (
+  shown (cluster_after alone (third_votes ∷ second_stands ∷ second_follows_again ∷ adds_third ∷ commits_second ∷ second_follows ∷ adds_second ∷ leads_alone ∷ [])) second_wins second_wins_shown,
+  votes_given (cluster_after alone (third_votes ∷ second_stands ∷ second_follows_again ∷ adds_third ∷ commits_second ∷ second_follows ∷ adds_second ∷ leads_alone ∷ [])) second_wins tt,
+  second_wins_elected,
+  (
+    shown (cluster_after alone (second_stands ∷ second_follows_again ∷ adds_third ∷ commits_second ∷ second_follows ∷ adds_second ∷ leads_alone ∷ [])) third_votes third_votes_shown,
+    votes_given (cluster_after alone (second_stands ∷ second_follows_again ∷ adds_third ∷ commits_second ∷ second_follows ∷ adds_second ∷ leads_alone ∷ [])) third_votes (third_gives, tt),
+    follows_any (cluster_after alone (second_stands ∷ second_follows_again ∷ adds_third ∷ commits_second ∷ second_follows ∷ adds_second ∷ leads_alone ∷ [])) third_votes (follows_only (cluster_after alone (second_stands ∷ second_follows_again ∷ adds_third ∷ commits_second ∷ second_follows ∷ adds_second ∷ leads_alone ∷ [])) third_votes refl refl),
+    (
+      shown (cluster_after alone (second_follows_again ∷ adds_third ∷ commits_second ∷ second_follows ∷ adds_second ∷ leads_alone ∷ [])) second_stands second_stands_shown,
+      votes_given (cluster_after alone (second_follows_again ∷ adds_third ∷ commits_second ∷ second_follows ∷ adds_second ∷ leads_alone ∷ [])) second_stands (tt, tt),
+      follows_any (cluster_after alone (second_follows_again ∷ adds_third ∷ commits_second ∷ second_follows ∷ adds_second ∷ leads_alone ∷ [])) second_stands (follows_only (cluster_after alone (second_follows_again ∷ adds_third ∷ commits_second ∷ second_follows ∷ adds_second ∷ leads_alone ∷ [])) second_stands refl refl),
+      (
+        shown (cluster_after alone (adds_third ∷ commits_second ∷ second_follows ∷ adds_second ∷ leads_alone ∷ [])) second_follows_again second_follows_again_shown,
+        votes_given (cluster_after alone (adds_third ∷ commits_second ∷ second_follows ∷ adds_second ∷ leads_alone ∷ [])) second_follows_again tt,
+        follows_any (cluster_after alone (adds_third ∷ commits_second ∷ second_follows ∷ adds_second ∷ leads_alone ∷ [])) second_follows_again (follows_only (cluster_after alone (adds_third ∷ commits_second ∷ second_follows ∷ adds_second ∷ leads_alone ∷ [])) second_follows_again refl refl),
+        (
+          shown (cluster_after alone (commits_second ∷ second_follows ∷ adds_second ∷ leads_alone ∷ [])) adds_third adds_third_shown,
+          votes_given (cluster_after alone (commits_second ∷ second_follows ∷ adds_second ∷ leads_alone ∷ [])) adds_third (tt, tt),
+          follows_any (cluster_after alone (commits_second ∷ second_follows ∷ adds_second ∷ leads_alone ∷ [])) adds_third (leads_on (cluster_after alone (commits_second ∷ second_follows ∷ adds_second ∷ leads_alone ∷ [])) adds_third refl refl refl),
+          (
+            shown (cluster_after alone (second_follows ∷ adds_second ∷ leads_alone ∷ [])) commits_second commits_second_shown,
+            votes_given (cluster_after alone (second_follows ∷ adds_second ∷ leads_alone ∷ [])) commits_second tt,
+            follows_any (cluster_after alone (second_follows ∷ adds_second ∷ leads_alone ∷ [])) commits_second (leads_on (cluster_after alone (second_follows ∷ adds_second ∷ leads_alone ∷ [])) commits_second refl refl refl),
+            (
+              shown (cluster_after alone (adds_second ∷ leads_alone ∷ [])) second_follows second_follows_shown,
+              votes_given (cluster_after alone (adds_second ∷ leads_alone ∷ [])) second_follows (tt, tt),
+              follows_any (cluster_after alone (adds_second ∷ leads_alone ∷ [])) second_follows (follows_only (cluster_after alone (adds_second ∷ leads_alone ∷ [])) second_follows refl refl),
+              (
+                shown (cluster_after alone (leads_alone ∷ [])) adds_second adds_second_shown,
+                votes_given (cluster_after alone (leads_alone ∷ [])) adds_second (tt, tt),
+                follows_any (cluster_after alone (leads_alone ∷ [])) adds_second (leads_on (cluster_after alone (leads_alone ∷ [])) adds_second refl refl refl),
+                (
+                  shown (cluster_after alone []) leads_alone leads_alone_shown,
+                  votes_given (cluster_after alone []) leads_alone tt,
+                  leads_alone_elected,
+                  tt,
+                ),
+              ),
+            ),
+          ),
+        ),
+      ),
+    ),
+  ),
+)

@@ -1,5 +1,5 @@
 -- An execution of members with snapshots stands for one on whole logs.
-use Rattle.std.proofs.Common.{◌≡◌, ◌≢◌, ℕ, zero, suc, ◌+◌, ◌-◌, ◌*◌, ◌<◌, ◌≤◌, ◌⊎◌, inl, inr, ⊎_elim, List, [], ◌∷◌, ◌++◌, length, take, drop, map, refl, ap, ap₂, sym, ◌∙◌, arith, subst, Some, None, Option, slice_get, Contains, le_refl, le_trans, le_of_lt, le_of_eq, take_all, count_by, take-append-drop, length-drop, length-take, suc-add, zero-add}
+use Rattle.std.proofs.Common.{◌≡◌, ℕ, zero, suc, ◌≤◌, ⊎_elim, List, [], ◌∷◌, ◌++◌, map, refl, ap, sym, ◌∙◌, arith, subst, Contains}
 use Rattle.std.proofs.lemmas.List.Elements.{Contains-append_cases}
 use Rattle.cp_rules.specs.Entries.{Entry}
 use Rattle.cp_rules.specs.Logs.{HasTerm}
@@ -14,7 +14,7 @@ use Rattle.cp_safety.proofs.Fits.{knows_has}
 use Rattle.cp_safety.proofs.Messages.{Heard, receive, stand, standing, to_whole}
 use Rattle.cp_safety.proofs.Steps.{next_fit, next_heard, next_stand, outcome, step_facts, whole_step}
 
--- the whole.cluster_after on logs logs, beside the whole.cluster_after with snapshots
+-- The execution on whole logs, beside the one with snapshots.
 record Beside (first : List ℕ) (steps : List Step) : Type 0 where
   plain : List whole.Step
   meets : whole.MeetsFacts first plain
@@ -71,7 +71,7 @@ beside first (s ∷ before) meets = next (beside first before meets.1)
 pub whole_logs : (first : List ℕ) (steps : List Step) → MeetsFacts first steps → (plain : List whole.Step) × whole.MeetsFacts first plain × StandsThrough first steps plain
 whole_logs first steps meets = let b = beside first steps meets in (b.plain, b.meets, b.through)
 
--- what a whole.cluster_after with snapshots knows of itself
+-- What an execution with snapshots knows of itself.
 pub record Known (w : Cluster) : Type 0 where
   pub upto : (m t i : ℕ) → KnowsTerm (w.member m) i t → t ≤ (w.member m).term
   pub asked : (c t lt li : ℕ) → Contains w.sent (Vote c t lt li) → t ≤ (w.member c).term
@@ -92,7 +92,7 @@ known first steps meets =
     has_upto g l u sound zero t has = omega (arith, has)
     has_upto g l u sound (suc i) t has = subst (λ n. n ≤ u) has.2 (sound.upto i has.0 has.1)
 
--- what is sent of a term in an Append is sent by the one leading of that term
+-- What is sent of a term in an Append is sent by the one leader of that term.
 sender_holds : (first : List ℕ) (steps : List whole.Step) → whole.MeetsFacts first steps → (f t p pt : ℕ) (es : List Entry) (c : ℕ) → Contains (whole.cluster_after steps).sent (Append f t p pt es c) → (ghost_of steps).leader t ≡ f
 sender_holds first [] meets f t p pt es c has = absurd (omega (arith, has.1))
 sender_holds first (s ∷ before) meets f t p pt es c has = ⊎_elim

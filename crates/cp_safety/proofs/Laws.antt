@@ -1,15 +1,15 @@
 -- The laws, carried from whole logs to the members that stand for these.
-use Rattle.std.proofs.Common.{◌≡◌, ◌≢◌, ℕ, zero, suc, ◌+◌, ◌-◌, ◌<◌, ◌≤◌, ◌⊎◌, inl, inr, ⊎_elim, true, List, [], ◌∷◌, ◌++◌, length, take, drop, refl, ap, sym, ◌∙◌, arith, subst, Some, slice_get, le_refl, take-take, length-take, length-append}
+use Rattle.std.proofs.Common.{◌≡◌, ℕ, zero, suc, ◌+◌, ◌-◌, ◌<◌, ◌≤◌, inl, inr, ⊎_elim, true, List, [], ◌∷◌, ◌++◌, length, take, drop, refl, ap, sym, ◌∙◌, arith, subst, slice_get, take-take, length-take, length-append}
 use Rattle.std.proofs.Math.Seq.{take-append_seam}
 use Rattle.std.proofs.lemmas.Bool.{cases_lt}
-use Rattle.std.proofs.lemmas.Option.{slice_get_within, same_Some}
+use Rattle.std.proofs.lemmas.Option.{same_Some}
 use Rattle.cp_rules.specs.Entries.{Entry}
 use Rattle.cp_rules.specs.Configurations.{AreAdjacent, HasQuorum, configuration_after, configuration_at}
 use Rattle.cp_rules.specs.Logs.{HasTerm, IsPrefixOf}
 use Rattle.cp_rules.specs.Clusters.{Member, Cluster, Step, IsMoment, cluster_after, opening}
 use Rattle.cp_rules.specs.Facts.{KnowsTerm, MeetsFacts}
 use Rattle.cp_agreement.specs.WholeLogs as whole
-use Rattle.cp_agreement.proofs.Logs.{get-append_left, get-take, has_place}
+use Rattle.cp_agreement.proofs.Logs.{get-take, has_place}
 use Rattle.cp_agreement.proofs.Moments.{one_leader as whole_one_leader, equal_prefixes as whole_equal_prefixes, later_leaders as whole_later_leaders, one_history as whole_one_history, held_at_end as whole_held_at_end}
 use Rattle.cp_safety.specs.Standing.{StandsForLog, StandsFor, StandsThrough}
 use Rattle.cp_safety.specs.Laws.{HasEntry, AgreeUpTo, CommitsFrontOf, IsHistory, IsHeldBy}
@@ -167,8 +167,8 @@ committed_prefixes first steps meets = let (plain, facts, through) = whole_logs 
 
 pub held_at_end : (first : List ℕ) (steps : List Step) → MeetsFacts first steps → (history : List Entry) × IsHistory first steps history
     × ((v : Cluster) → IsMoment first steps v → (m place : ℕ) → place < (v.member m).commit
-        → (members : List ℕ) × AreAdjacent (configuration_at first history (suc place)) members
-            × HasQuorum members (λ n. IsHeldBy history place ((cluster_after first steps).member n)))
+    → (members : List ℕ) × AreAdjacent (configuration_at first history (suc place)) members
+    × HasQuorum members (λ n. IsHeldBy history place ((cluster_after first steps).member n)))
 held_at_end first steps meets =
     let (plain, facts, through) = whole_logs first steps meets in
     (history first steps plain facts through, is_history first steps plain facts through, held first steps plain facts through)

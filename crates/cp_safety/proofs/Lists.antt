@@ -1,5 +1,5 @@
 -- Small facts of lists.
-use Rattle.std.proofs.Common.{◌≡◌, ◌≢◌, ℕ, zero, suc, ◌+◌, ◌-◌, ◌*◌, ◌<◌, ◌≤◌, ◌⊎◌, inl, inr, ⊎_elim, List, [], ◌∷◌, ◌++◌, length, take, drop, map, refl, ap, ap₂, sym, ◌∙◌, arith, subst, Some, None, Option, slice_get, Contains, le_refl, le_trans, le_of_lt, le_of_eq, take_all, count_by, take-append-drop, length-drop, length-take, suc-add, zero-add}
+use Rattle.std.proofs.Common.{◌≡◌, ℕ, zero, suc, ◌+◌, ◌≤◌, List, [], ◌∷◌, ◌++◌, length, take, drop, map, refl, ap, sym, ◌∙◌, arith, Contains, suc-add, zero-add}
 use Rattle.std.proofs.lemmas.Option.{slice_get_within, same_Some}
 use Rattle.cp_rules.specs.Entries.{Entry, members_in}
 use Rattle.cp_rules.specs.Configurations.{configuration_after, members_or}

@@ -1,5 +1,5 @@
 -- What the messages of members with snapshots say of whole logs.
-use Rattle.std.proofs.Common.{◌≡◌, ◌≢◌, ℕ, zero, suc, ◌+◌, ◌-◌, ◌*◌, ◌<◌, ◌≤◌, ◌⊎◌, inl, inr, ⊎_elim, List, [], ◌∷◌, ◌++◌, length, take, drop, map, refl, ap, ap₂, sym, ◌∙◌, arith, subst, Some, None, Option, slice_get, Contains, le_refl, le_trans, le_of_lt, le_of_eq, take_all, count_by, take-append-drop, length-drop, length-take, suc-add, zero-add}
+use Rattle.std.proofs.Common.{◌≡◌, ℕ, ◌≤◌, List, length, take, map, refl, ap₂, sym, ◌∙◌, subst, Some, None, Option, Contains}
 use Rattle.std.proofs.lemmas.Option.{same_Some}
 use Rattle.cp_rules.specs.Entries.{Entry}
 use Rattle.cp_rules.specs.Configurations.{configuration_after}
@@ -58,7 +58,6 @@ stands_behind l commit sends m Other at e = AsItIs (subst (Contains sends) e at)
 pub what_stands : (l : List Entry) (commit : ℕ) (sends : List Message) (m : Message) → Contains (map (to_whole l commit) sends) m → Stands l commit sends m
 what_stands l commit sends m has = let x = contains_unmap (to_whole l commit) sends m has in stands_behind l commit sends m x.0 x.1 x.2
 
-
 -- the member that one stands for, with this whole log
 abbrev pub standing : Member → List Entry → whole.Member
 standing b l = record { term = b.term; vote = b.vote; log = l; commit = b.commit; is_leader = b.is_leader }
@@ -67,8 +66,7 @@ standing b l = record { term = b.term; vote = b.vote; log = l; commit = b.commit
 abbrev pub stand : Cluster → (ℕ → List Entry) → List Message → whole.Cluster
 stand w logs sent = record { member = λ m. standing (w.member m) (logs m); sent = sent }
 
-
--- what was sent with a snapshot stands for an Append of the logs front
+-- What was sent as a snapshot stands for an Append of the whole front.
 pub record Carries (first : List ℕ) (sent : List Message) (f t i it : ℕ) (ms : List ℕ) : Type 0 where
   pub entries : List Entry
   pub commit : ℕ
@@ -85,13 +83,12 @@ pub record Heard (first : List ℕ) (w : Cluster) (sent : List Message) : Type 0
   pub done : (v to t j : ℕ) → Contains w.sent (Done v to t j) → Contains sent (Appended v to t j)
   pub snapshot : (f t i it : ℕ) (ms : List ℕ) → Contains w.sent (Snapshot f t i it ms) → Carries first sent f t i it ms
 
--- the message that came, as the logs logs see it
+-- The message that came, as the whole logs see it.
 pub record Received (first : List ℕ) (sent : List Message) (o : Option Message) : Type 0 where
   pub got : Option Message
   pub delivered : (m : Message) → got ≡ Some m → Contains sent m
   pub plain : (m : Message) → SaysTheSame m → o ≡ Some m → got ≡ Some m
   pub snapshot : (f t i it : ℕ) (ms : List ℕ) → o ≡ Some (Snapshot f t i it ms) → (c : Carries first sent f t i it ms) × (got ≡ Some (Append f t 0 0 c.entries c.commit))
-
 
 received_as_it_is : (first : List ℕ) (w : Cluster) (sent : List Message) → Heard first w sent → (x : Message) → SaysTheSame x → Contains w.sent x → Received first sent (Some x)
 received_as_it_is first w sent heard x same has = record {

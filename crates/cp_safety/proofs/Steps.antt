@@ -1,5 +1,5 @@
 -- One step of a member with a snapshot is one step on the whole logs that members stand for.
-use Rattle.std.proofs.Common.{◌≡◌, ◌≢◌, ℕ, zero, suc, ◌+◌, ◌-◌, ◌*◌, ◌<◌, ◌≤◌, ◌⊎◌, inl, inr, ⊎_elim, List, [], ◌∷◌, ◌++◌, length, take, drop, map, refl, ap, ap₂, sym, ◌∙◌, arith, subst, Some, None, Option, slice_get, Contains, le_refl, le_trans, le_of_lt, le_of_eq, take_all, count_by, take-append-drop, length-drop, length-take, suc-add, zero-add}
+use Rattle.std.proofs.Common.{◌≡◌, ◌≢◌, ℕ, zero, suc, ◌+◌, ◌-◌, ◌*◌, ◌<◌, ◌≤◌, ◌⊎◌, inl, inr, ⊎_elim, List, [], ◌∷◌, ◌++◌, length, take, drop, map, refl, ap, ap₂, sym, ◌∙◌, arith, subst, Some, slice_get, Contains, le_refl, le_trans, le_of_lt, le_of_eq, take_all, count_by, take-append-drop, length-take, zero-add}
 use mathlib.Core.Path.{fun_ext}
 use Rattle.std.proofs.lemmas.Bool.{cases_lt, cases_eq}
 use Rattle.std.proofs.lemmas.Option.{slice_get_within}
@@ -20,7 +20,7 @@ use Rattle.cp_safety.proofs.Messages.{AsItIs, Carries, ForDone, ForSnapshot, Hea
 
 module _ (first : List ℕ) (w : Cluster) (logs : ℕ → List Entry) (sent : List Message) (g : Ghost) (s : Step)
     (inv : Invariant first (stand w logs sent) g) (heard : Heard first w sent) (fit : (m : ℕ) → StandsForLog first (w.member m) (logs m)) (r : Received first sent s.got) (facts : Facts w s) where
-  -- the step on logs logs, where it leaves the logs log l
+  -- the step on whole logs, where it leaves the whole log l
   abbrev pub whole_step : List Entry → whole.Step
   whole_step l = record { actor = s.actor; got = r.got; leads = s.leads; after = standing s.after l; sends = map (to_whole l s.after.commit) s.sends }
 
@@ -36,7 +36,7 @@ module _ (first : List ℕ) (w : Cluster) (logs : ℕ → List Entry) (sent : Li
   commit_within : (w.member s.actor).commit ≤ length (logs s.actor)
   commit_within = ⊎_elim (λ e. omega (arith, e)) (λ (c : Committed first (stand w logs sent) g (logs s.actor) (w.member s.actor).commit (w.member s.actor).term). share_length (g.made c.term) (logs s.actor) (w.member s.actor).commit (share_sym (logs s.actor) (g.made c.term) (w.member s.actor).commit c.same)) (inv.commit s.actor)
 
-  -- what is committed, the leading of the member's term has
+  -- What is committed, the leader of the member's term has.
   agree : g.leader s.after.term ≢ 0 → Share (w.member s.actor).commit (logs s.actor) (g.made s.after.term)
   agree leader = ⊎_elim
       (λ e. λ k less. absurd (omega (arith, e, less)))
@@ -56,7 +56,7 @@ module _ (first : List ℕ) (w : Cluster) (logs : ℕ → List Entry) (sent : Li
   no_snapshot : GotAppend w s → (n : ℕ) (l : List Entry) → (f t i it : ℕ) (ms : List ℕ) → s.got ≡ Some (Snapshot f t i it ms) → Share n l (logs s.actor)
   no_snapshot c n l f t i it ms e = absurd (let h = c.got in cc)
 
-  -- a logs log with the same base
+  -- a whole log with the same base
   same_fit : (l : List Entry) → SameBase s.after (w.member s.actor) → s.after.log ≡ drop (w.member s.actor).base l → Share (w.member s.actor).base l (logs s.actor) → StandsForLog first s.after l
   same_fit l (eb, et, em) log both =
       let old = fit s.actor in
@@ -105,7 +105,7 @@ module _ (first : List ℕ) (w : Cluster) (logs : ℕ → List Entry) (sent : Li
         below = inl (subst (λ n. n ≤ (w.member s.actor).commit) (sym m.base.0) old.above, subst (λ n. Share n (logs s.actor ++ (m.entry ∷ [])) (logs s.actor)) (sym m.base.0) (kept (w.member s.actor).base old.fits), λ f t i it ms e. kept (w.member s.actor).commit commit_within);
       }
 
-  -- a replacement that begins at or after the base
+  -- A replacement that begins at or after the base.
   follows : (c : GotAppend w s) → SameBase s.after (w.member s.actor) → HasTerm (logs s.actor) c.previous c.previous_term
       → (d : ℕ) (entry : Entry) → slice_get c.entries d ≡ Some entry → HasTerms (logs s.actor) c.previous c.entries d
       → (length (logs s.actor) ≡ c.previous + d) ⊎ ((e : Entry) × (slice_get (logs s.actor) (c.previous + d) ≡ Some e) × (e.term ≢ entry.term))
@@ -128,7 +128,7 @@ module _ (first : List ℕ) (w : Cluster) (logs : ℕ → List Entry) (sent : Li
         );
       }
 
-  -- what is left of the logs log after the base
+  -- what is left of the whole log after the base
   rest_is : (n m d : ℕ) (es : List Entry) → n ≡ (w.member s.actor).base + m → take m (w.member s.actor).log ++ drop d es ≡ drop (w.member s.actor).base (take n (logs s.actor) ++ drop d es)
   rest_is n m d es e =
       let old = fit s.actor in
@@ -194,7 +194,7 @@ module _ (first : List ℕ) (w : Cluster) (logs : ℕ → List Entry) (sent : Li
         below = inl (c.committed, share_refl (logs s.actor) s.after.base within, λ f t i it ms e. share_refl (logs s.actor) b.commit commit_within);
       }
 
-  -- the front that an leading sent with its snapshot
+  -- the front that a leader sent with its snapshot
   front_of_office : (f it : ℕ) (ms : List ℕ) (i : ℕ) → (c : Carries first sent f s.after.term i it ms) → (g.leader s.after.term ≢ 0) × Share (length c.entries) c.entries (g.made s.after.term)
   front_of_office f it ms i c =
       let h = inv.append f s.after.term 0 0 c.entries c.commit c.is_sent in
@@ -488,7 +488,7 @@ module _ (first : List ℕ) (w : Cluster) (logs : ℕ → List Entry) (sent : Li
       plain = λ m same has. ⊎_elim
           (λ old. Contains-append_left sent (map (to_whole o.log s.after.commit) s.sends) m (heard.plain m same old))
           (λ new. Contains-append_right sent (map (to_whole o.log s.after.commit) s.sends) m
-              (subst (Contains (map (to_whole o.log s.after.commit) s.sends)) (same_message o.log s.after.commit m same) (contains_map (to_whole o.log s.after.commit) s.sends m new)))
+          (subst (Contains (map (to_whole o.log s.after.commit) s.sends)) (same_message o.log s.after.commit m same) (contains_map (to_whole o.log s.after.commit) s.sends m new)))
           (Contains-append_cases w.sent s.sends m has);
       asked = λ c t lt li has. ⊎_elim
           (λ old. Contains-append_left w.sent s.sends (Vote c t lt li) (heard.asked c t lt li old))

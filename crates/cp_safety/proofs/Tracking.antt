@@ -9,12 +9,11 @@ use Rattle.std.proofs.lemmas.List.Elements.{Contains-append_left, Contains-appen
 use Rattle.cp_rules.specs.Clusters.{Append, Appended, Cluster, Done, Member, Message, Snapshot, Step, Vote, Voted, after_step, cluster_after, put}
 use Rattle.cp_rules.specs.Facts.{EntriesCreated, Facts, FollowsAbove, FollowsBelow, GotAppend, HasAcknowledged, InstallsSnapshot, KeepsLog, KnowsTerm, LeaderCommits, LogEndsAt, MeetsFacts, TakesSnapshot, WinsElection, before}
 use Rattle.cp_safety.specs.Tracking.{BecomesCandidate, Candidate, Counts, Follower, Leader, LeaderCommitsByMatch, MatchedUpto, MeetsTrackedFacts, PreCandidate, Rests, Role, SendsTruly, StaysCandidate, TrackedCluster, TrackedFacts, TrackedMember, TrackedStep, WinsAlone, WinsByVotes, cut_step, leads_by_role, restarted, tracked_after, tracked_after_step, tracked_opening, uncut_step, untracked, untracked_cluster, untracked_step, untracked_steps}
-use Rattle.cp_agreement.specs.WholeLogs as whole
 use Rattle.cp_agreement.proofs.Logs.{get-drop}
 use Rattle.cp_agreement.proofs.Ghost.{put_other, put_same}
 use Rattle.cp_safety.proofs.Executions.{Known, known}
 
--- what the tracks say of what was sent
+-- What members count says what was sent.
 record TracksHold (w : TrackedCluster) : Type 0 where
   fresh : (m : ℕ) → (w.member m).role ≡ Candidate → (t i : ℕ) → KnowsTerm (untracked (w.member m)) i t → t < (w.member m).term
   spelled : (m : ℕ) → (w.member m).role ≡ Candidate → (lt li : ℕ) → Contains w.sent (Vote m (w.member m).term lt li) → LogEndsAt (untracked (w.member m)) lt li
@@ -53,7 +52,7 @@ tracks_opening first = record {
   matched = λ m h. absurd (cc);
 }
 
--- the member's own snapshot changes no term that it still knows, nor the end of its log
+-- The member's own snapshot changes no term that it still knows, nor the end of its log.
 module _ (w : Cluster) (s : Step) where
   -- What the member knows after its own snapshot, it knew.
   rests_knows : KeepsLog w s ⊎ TakesSnapshot w s → (t i : ℕ) → KnowsTerm s.after i t → KnowsTerm (w.member s.actor) i t
@@ -166,7 +165,7 @@ module _ (w : TrackedCluster) (s : TrackedStep) (now : Known (untracked_cluster 
     };
   }
 
-  -- a crash wins the commit back to the base, which isn't above what it was, or which the step has just installed
+  -- A crash takes the commit back to the base, which isn't above what it was, or which the step has just installed.
   cut_commit : (s.after.base ≤ (w.member s.actor).commit) ⊎ InstallsSnapshot (untracked_cluster w) (cut_step s)
   cut_commit = ⊎_elim
       (⊎_elim (λ k. inl (subst (λ n. n ≤ (w.member s.actor).commit) (sym k.0.0) (now.above s.actor))) (λ c. inl c.committed))
@@ -257,7 +256,7 @@ module _ (w : TrackedCluster) (s : TrackedStep) (now : Known (untracked_cluster 
   still_sent : (x : Message) → Contains w.sent x → Contains (tracked_after_step w s).sent x
   still_sent x has = Contains-append_left w.sent (if s.cut then [] else s.sends) x has
 
-  -- a member that ends as a candidate left its whole log alone
+  -- A member that ends as a candidate left its whole log alone.
   rests : s.after.role ≡ Candidate → Rests w s
   rests role = ⊎_elim (λ r. r) (λ x. absurd (x.0 role)) facts.log
 
@@ -302,7 +301,7 @@ module _ (w : TrackedCluster) (s : TrackedStep) (now : Known (untracked_cluster 
       still_answered : (f t n : ℕ) → HasAcknowledged (untracked_cluster w) f t n → HasAcknowledged (untracked_cluster (tracked_after_step w s)) f t n
       still_answered f t n x = (x.0, x.1, x.2, ⊎_elim (λ h. inl (still_sent (Appended f x.0 t x.1) h)) (λ h. inr (still_sent (Done f x.0 t x.1) h)) x.3)
 
--- each whole.cluster_after with tracks is a whole.cluster_after that meets the facts, and its tracks hold
+-- Each tracked execution meets the facts, and what its members count holds.
 facts_and_tracks : (first : List ℕ) (steps : List TrackedStep) → MeetsTrackedFacts first steps → MeetsFacts first (untracked_steps steps) × TracksHold (tracked_after first steps)
 facts_and_tracks first [] meets = (tt, tracks_opening first)
 facts_and_tracks first (s ∷ before) meets =

@@ -1,6 +1,6 @@
 -- Members that send a snapshot in chunks. A chunk stands for the whole snapshot, with the term and the configuration that its bytes
 -- begin with; what a member joins from chunks of one term and index is one snapshot.
-use Rattle.std.specs.Prelude.{◌≡◌, ℕ, ◌+◌, ◌<◌, ◌⊎◌, Bool, true, List, [], ◌∷◌, ◌++◌, length, map, Option, Some, None, Contains, if◌then◌else◌}
+use Rattle.std.specs.Prelude.{◌≡◌, ℕ, ◌<◌, ◌⊎◌, Bool, true, List, [], ◌∷◌, ◌++◌, length, map, Option, Some, None, Contains, if◌then◌else◌}
 use Rattle.cp_rules.specs.Clusters.{Message, Snapshot, put}
 use Rattle.cp_safety.specs.Tracking.{TrackedMember, TrackedCluster, TrackedStep, TrackedFacts, restarted, tracked_opening}
 

@@ -59,8 +59,8 @@ IsHeldBy history place m = (place < m.base) ⊎ ((e : Entry) × (slice_get histo
 abbrev pub HeldAtEnd : Type 0
 HeldAtEnd = (first : List ℕ) (steps : List Step) → MeetsFacts first steps → (history : List Entry) × IsHistory first steps history
     × ((v : Cluster) → IsMoment first steps v → (m place : ℕ) → place < (v.member m).commit
-        → (members : List ℕ) × AreAdjacent (configuration_at first history (suc place)) members
-            × HasQuorum members (λ n. IsHeldBy history place ((cluster_after first steps).member n)))
+    → (members : List ℕ) × AreAdjacent (configuration_at first history (suc place)) members
+    × HasQuorum members (λ n. IsHeldBy history place ((cluster_after first steps).member n)))
 
 -- An execution of members with snapshots stands at each moment for one on whole logs that meets the facts.
 abbrev pub WholeLogs : Type 0
@@ -79,7 +79,7 @@ TrackedExecutions = (first : List ℕ) (steps : List TrackedStep) → MeetsTrack
 abbrev pub ChunkedExecutions : Type 0
 ChunkedExecutions = (reader : SnapshotReader) (first : List ℕ) (steps : List ChunkedStep) → MeetsChunkedFacts reader first steps
     → (tracked : List TrackedStep) × MeetsTrackedFacts first tracked
-        × ((m : ℕ) → (tracked_after first tracked).member m ≡ ((chunked_after first steps).member m).tracked)
+    × ((m : ℕ) → (tracked_after first tracked).member m ≡ ((chunked_after first steps).member m).tracked)
 
 -- What a step joins from a last chunk is a snapshot of that index that the chunk's sender had.
 abbrev pub ChunksJoin : Type 0
