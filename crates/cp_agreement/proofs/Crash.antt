@@ -62,3 +62,6 @@ cut_off_meets first w s facts = record {
       has = f.has;
       change = f.change;
     }))
+
+pub crashes_meet : (first : List ℕ) (w : Cluster) → ((m : ℕ) → m ≢ 0 → Facts first w (crash w m)) × ((s : Step) → Facts first w s → Facts first w (cut_off s))
+crashes_meet first w = (crash_meets first w, cut_off_meets first w)

@@ -1,9 +1,9 @@
 -- The laws of agreement on whole logs. They speak of two states that an execution had, in either order, and of two of its members.
-use Rattle.std.specs.Prelude.{◌≡◌, ◌<◌, ◌≤◌, ◌⊎◌, true, ℕ, suc, Bool, List, length, take}
+use Rattle.std.specs.Prelude.{◌≡◌, ◌≢◌, ◌<◌, ◌≤◌, ◌⊎◌, true, ℕ, suc, Bool, List, length, take}
 use Rattle.cp_rules.specs.Entries.{Entry}
 use Rattle.cp_rules.specs.Configurations.{configuration_at, HasQuorum, IsQuorum, AreAdjacent}
 use Rattle.cp_rules.specs.Logs.{HasTerm, IsPrefixOf}
-use Rattle.cp_agreement.specs.WholeLogs.{Cluster, Step, MeetsFacts, IsMoment, cluster_after, committed}
+use Rattle.cp_agreement.specs.WholeLogs.{Cluster, Step, MeetsFacts, IsMoment, cluster_after, committed, Facts, crash, cut_off}
 
 -- No two members lead in one term.
 abbrev pub OneLeader : Type 0
@@ -40,3 +40,7 @@ HeldAtEnd = (first : List ℕ) (steps : List Step) → MeetsFacts first steps �
 -- Quorums of adjacent configurations have a common member.
 abbrev pub QuorumsMeet : Type 0
 QuorumsMeet = (a b : List ℕ) (p q : ℕ → Bool) → AreAdjacent a b → IsQuorum a p → IsQuorum b q → (m : ℕ) × (p m ≡ true) × (q m ≡ true)
+
+-- A crash between two steps meets the facts, and so does what a crash leaves of a step that meets them.
+abbrev pub CrashesMeet : Type 0
+CrashesMeet = (first : List ℕ) (w : Cluster) → ((m : ℕ) → m ≢ 0 → Facts first w (crash w m)) × ((s : Step) → Facts first w s → Facts first w (cut_off s))

@@ -1,7 +1,7 @@
 //! Agreement of one group of members on a log, over every execution, on whole logs. No code: the functions below state laws.
 #![tactic(auto)]
 
-ghost use Rattle.cp_agreement.specs.Laws.{OneLeader, EqualPrefixes, LaterLeaders, CommittedPrefixes, OneHistory, HeldAtEnd, QuorumsMeet};
+ghost use Rattle.cp_agreement.specs.Laws.{OneLeader, EqualPrefixes, LaterLeaders, CommittedPrefixes, OneHistory, HeldAtEnd, QuorumsMeet, CrashesMeet};
 
 /// No two members lead in one term.
 pub fn one_leader()
@@ -36,4 +36,9 @@ pub fn held_at_end()
 /// Quorums of adjacent configurations have a common member.
 pub fn quorums_meet()
     ensures { QuorumsMeet }
+{}
+
+/// A crash between two steps meets the facts, and so does what a crash leaves of a step that meets them.
+pub fn crashes_meet()
+    ensures { CrashesMeet }
 {}

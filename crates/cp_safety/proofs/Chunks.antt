@@ -6,7 +6,7 @@ use Rattle.std.proofs.lemmas.List.Elements.{Contains-append_left, Contains-appen
 use Rattle.std.proofs.lemmas.Option.{same_Some}
 use Rattle.cp_rules.specs.Clusters.{Message, Snapshot, Cluster, cluster_after, put}
 use Rattle.cp_safety.specs.Tracking.{TrackedStep, TrackedFacts, MeetsTrackedFacts, restarted, tracked_after, untracked_steps}
-use Rattle.cp_safety.specs.Chunks.{SnapshotReader, Received, ChunkedMember, Wire, AsItIs, Chunk, ChunkedStep, chunked_restart, chunked_after, seen_got, seen_sent, seen_step, Joins, IsPiece, SameSnapshot, NewSnapshot, ChunkedFacts, MeetsChunkedFacts, HadSnapshot}
+use Rattle.cp_safety.specs.Chunks.{SnapshotReader, Received, ChunkedMember, Wire, AsItIs, Chunk, ChunkedStep, chunked_restart, chunked_after, seen_got, seen_sent, seen_step, Joins, IsPiece, SameSnapshot, NewSnapshot, ChunkedFacts, MeetsChunkedFacts, HadSnapshot, SeenThrough}
 use Rattle.cp_agreement.proofs.Ghost.{put_same, put_other}
 use Rattle.cp_safety.proofs.Lists.{contains_map}
 use Rattle.cp_safety.proofs.Executions.{senders}
@@ -65,6 +65,7 @@ record Beside (reader : SnapshotReader) (first : List ℕ) (steps : List Chunked
   same : (m : ℕ) → (tracked_after first tracked).member m ≡ ((chunked_after first steps).member m).tracked
   text : ℕ → ℕ → List ℕ
   shown : Shown reader first steps text (tracked_after first tracked).sent
+  through : SeenThrough first steps tracked
 
 module _ (reader : SnapshotReader) (first : List ℕ) (before : List ChunkedStep) (b : Beside reader first before) (s : ChunkedStep) (facts : ChunkedFacts reader (chunked_after first before) s) where
   -- What a step joins is a front of the text of the chunk's sender, and the whole of it with the last chunk.
@@ -289,6 +290,7 @@ module _ (reader : SnapshotReader) (first : List ℕ) (before : List ChunkedStep
     same = next_same;
     text = next_text;
     shown = next_shown;
+    through = (seen, b.tracked, refl, next_same, b.through);
   }
 
 -- By induction on the steps.
@@ -305,12 +307,13 @@ beside reader first [] meets = record {
     chunk = λ f t i offset last bytes has. absurd (omega (arith, has.1));
     received = λ m r is. absurd (cc);
   };
+  through = refl;
 }
 beside reader first (s ∷ before) meets = next reader first before (beside reader first before meets.1) s meets.0
 
 pub chunked_executions : (reader : SnapshotReader) (first : List ℕ) (steps : List ChunkedStep) → MeetsChunkedFacts reader first steps
-    → (tracked : List TrackedStep) × MeetsTrackedFacts first tracked × ((m : ℕ) → (tracked_after first tracked).member m ≡ ((chunked_after first steps).member m).tracked)
-chunked_executions reader first steps meets = let b = beside reader first steps meets in (b.tracked, b.meets, b.same)
+    → (tracked : List TrackedStep) × MeetsTrackedFacts first tracked × SeenThrough first steps tracked
+chunked_executions reader first steps meets = let b = beside reader first steps meets in (b.tracked, b.meets, b.through)
 
 -- What is joined is a snapshot that the sender had.
 pub chunks_join : (reader : SnapshotReader) (first : List ℕ) (s : ChunkedStep) (steps : List ChunkedStep) → MeetsChunkedFacts reader first (s ∷ steps)

@@ -2,7 +2,7 @@
 -- begin with; what a member joins from chunks of one term and index is one snapshot.
 use Rattle.std.specs.Prelude.{◌≡◌, ℕ, ◌<◌, ◌⊎◌, Bool, true, List, [], ◌∷◌, ◌++◌, length, map, Option, Some, None, Contains, if◌then◌else◌}
 use Rattle.cp_rules.specs.Clusters.{Message, Snapshot, put}
-use Rattle.cp_safety.specs.Tracking.{TrackedMember, TrackedCluster, TrackedStep, TrackedFacts, restarted, tracked_opening}
+use Rattle.cp_safety.specs.Tracking.{TrackedMember, TrackedCluster, TrackedStep, TrackedFacts, restarted, tracked_opening, tracked_after}
 
 -- How a snapshot's bytes are read: the term of its index, and the configuration there.
 pub record SnapshotReader : Type 0 where
@@ -135,3 +135,9 @@ MeetsChunkedFacts reader first (s ∷ before) = ChunkedFacts reader (chunked_aft
 abbrev pub HadSnapshot : List ℕ → List ChunkedStep → ℕ → ℕ → List ℕ → Type 0
 HadSnapshot first [] f index text = ⊥
 HadSnapshot first (s ∷ before) f index text = ((s.actor ≡ f) × (s.after.tracked.base ≡ index) × (s.after.snapshot ≡ text)) ⊎ HadSnapshot first before f index text
+
+-- At each moment of the execution each member is the one of an execution of tracked members.
+abbrev pub SeenThrough : List ℕ → List ChunkedStep → List TrackedStep → Type 0
+SeenThrough first [] tracked = tracked ≡ []
+SeenThrough first (s ∷ steps) tracked = (p : TrackedStep) × (ps : List TrackedStep) × (tracked ≡ p ∷ ps)
+    × ((m : ℕ) → (tracked_after first tracked).member m ≡ ((chunked_after first (s ∷ steps)).member m).tracked) × SeenThrough first steps ps
