@@ -4,6 +4,7 @@ pub mod Configurations
 pub mod Ghost
 pub mod Complete
 pub mod Held
+pub mod GhostSteps
 pub mod Grows
 pub mod Crash
 pub mod Moments

@@ -11,7 +11,8 @@ use Rattle.cp_agreement.proofs.Logs.{Share, share_sym, share_trans, share_less, 
 use Rattle.cp_agreement.proofs.Ghost.{Ghost, Committed, Sound, Invariant, ghost_after, ghost_of, put_same, at_each}
 use Rattle.cp_agreement.proofs.Complete.{complete, complete_won, sound_matches}
 use Rattle.cp_agreement.proofs.Held.{held}
-use Rattle.cp_agreement.proofs.Grows.{next, sound_grows, committed_grows, leader_stays, won_held}
+use Rattle.cp_agreement.proofs.Grows.{next, sound_grows, committed_grows, leader_stays}
+use Rattle.cp_agreement.proofs.GhostSteps.{won_held}
 
 none_sent : (m : Message) → Contains {X = Message} [] m → ⊥
 none_sent m c = omega (arith, c.1)

@@ -9,7 +9,8 @@ use Rattle.cp_safety.specs.Standing.{StandsFor, StandsForLog, StandsThrough}
 use Rattle.cp_agreement.specs.WholeLogs as whole
 use Rattle.cp_agreement.proofs.Ghost.{Ghost, Invariant, Sound, ghost_of}
 use Rattle.cp_agreement.proofs.Moments.{invariant}
-use Rattle.cp_agreement.proofs.Grows.{leader_in, leader_stays}
+use Rattle.cp_agreement.proofs.GhostSteps.{leader_in}
+use Rattle.cp_agreement.proofs.Grows.{leader_stays}
 use Rattle.cp_safety.proofs.Fits.{knows_has}
 use Rattle.cp_safety.proofs.Messages.{Heard, receive, stand, standing, to_whole}
 use Rattle.cp_safety.proofs.Steps.{next_fit, next_heard, next_stand, outcome, step_facts, whole_step}

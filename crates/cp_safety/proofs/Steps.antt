@@ -7,7 +7,7 @@ use Rattle.std.proofs.lemmas.List.Elements.{Contains-append_left, Contains-appen
 use Rattle.cp_rules.specs.Entries.{Entry}
 use Rattle.cp_rules.specs.Configurations.{AreOneApart, configuration_after}
 use Rattle.cp_rules.specs.Logs.{HasTerm, HasTerms}
-use Rattle.cp_rules.specs.Clusters.{Append, Appended, Cluster, Done, Message, Snapshot, Step, Vote, Voted, after_step, put}
+use Rattle.cp_rules.specs.Clusters.{Member, Append, Appended, Cluster, Done, Message, Snapshot, Step, Vote, Voted, after_step, put}
 use Rattle.cp_rules.specs.Facts.{Acknowledges, ChangesAreSingle, EntriesCreated, Facts, Finishes, FollowerCommits, FollowsAbove, FollowsBelow, GotAppend, InstallsSnapshot, KeepsLog, LeaderCommits, SameBase, TakesSnapshot, WinsElection}
 use Rattle.cp_safety.specs.Standing.{StandsForLog}
 use Rattle.cp_agreement.specs.WholeLogs as whole
@@ -20,6 +20,16 @@ use Rattle.cp_safety.proofs.Messages.{AsItIs, Carries, ForDone, ForSnapshot, Hea
 
 module _ (first : List ℕ) (w : Cluster) (logs : ℕ → List Entry) (sent : List Message) (g : Ghost) (s : Step)
     (inv : Invariant first (stand w logs sent) g) (heard : Heard first w sent) (fit : (m : ℕ) → StandsForLog first (w.member m) (logs m)) (r : Received first sent s.got) (facts : Facts w s) where
+  -- the acting member and its whole log before the step, and the cluster on whole logs
+  abbrev me : Member
+  me = w.member s.actor
+
+  abbrev whole_log : List Entry
+  whole_log = logs s.actor
+
+  abbrev now : whole.Cluster
+  now = stand w logs sent
+
   -- the step on whole logs, where it leaves the whole log l
   abbrev pub whole_step : List Entry → whole.Step
   whole_step l = record { actor = s.actor; got = r.got; leads = s.leads; after = standing s.after l; sends = map (to_whole l s.after.commit) s.sends }
@@ -28,44 +38,44 @@ module _ (first : List ℕ) (w : Cluster) (logs : ℕ → List Entry) (sent : Li
   pub record Outcome : Type 0 where
     pub log : List Entry
     fits : StandsForLog first s.after log
-    pub change : (log ≡ logs s.actor) ⊎ (whole.EntriesCreated first (stand w logs sent) (whole_step log) ⊎ whole.FollowsLeader (stand w logs sent) (whole_step log))
-    pub below : ((s.after.base ≤ (w.member s.actor).commit) × Share s.after.base log (logs s.actor) × ((f t i it : ℕ) (ms : List ℕ) → s.got ≡ Some (Snapshot f t i it ms) → Share (w.member s.actor).commit log (logs s.actor)))
+    pub change : (log ≡ whole_log) ⊎ (whole.EntriesCreated first now (whole_step log) ⊎ whole.FollowsLeader now (whole_step log))
+    pub below : ((s.after.base ≤ me.commit) × Share s.after.base log whole_log × ((f t i it : ℕ) (ms : List ℕ) → s.got ≡ Some (Snapshot f t i it ms) → Share me.commit log whole_log))
         ⊎ (InstallsSnapshot w s × Share s.after.base log (g.made s.after.term))
 
   -- No commit lies past the whole log.
-  commit_within : (w.member s.actor).commit ≤ length (logs s.actor)
-  commit_within = ⊎_elim (λ e. omega (arith, e)) (λ (c : Committed first (stand w logs sent) g (logs s.actor) (w.member s.actor).commit (w.member s.actor).term). share_length (g.made c.term) (logs s.actor) (w.member s.actor).commit (share_sym (logs s.actor) (g.made c.term) (w.member s.actor).commit c.same)) (inv.commit s.actor)
+  commit_within : me.commit ≤ length whole_log
+  commit_within = ⊎_elim (λ e. omega (arith, e)) (λ (c : Committed first now g whole_log me.commit me.term). share_length (g.made c.term) whole_log me.commit (share_sym whole_log (g.made c.term) me.commit c.same)) (inv.commit s.actor)
 
   -- What is committed, the leader of the member's term has.
-  agree : g.leader s.after.term ≢ 0 → Share (w.member s.actor).commit (logs s.actor) (g.made s.after.term)
+  agree : g.leader s.after.term ≢ 0 → Share me.commit whole_log (g.made s.after.term)
   agree leader = ⊎_elim
       (λ e. λ k less. absurd (omega (arith, e, less)))
-      (λ (c : Committed first (stand w logs sent) g (logs s.actor) (w.member s.actor).commit (w.member s.actor).term).
-      share_trans (logs s.actor) (g.made c.term) (g.made s.after.term) (w.member s.actor).commit c.same
-      (share_less (g.made c.term) (g.made s.after.term) (w.member s.actor).commit (suc c.place) c.covers
-      (complete first (stand w logs sent) g inv c.term c.place c.chosen s.after.term leader (le_trans c.upto facts.term))))
+      (λ (c : Committed first now g whole_log me.commit me.term).
+      share_trans whole_log (g.made c.term) (g.made s.after.term) me.commit c.same
+      (share_less (g.made c.term) (g.made s.after.term) me.commit (suc c.place) c.covers
+      (complete first now g inv c.term c.place c.chosen s.after.term leader (le_trans c.upto facts.term))))
       (inv.commit s.actor)
 
-  came_plain : GotAppend w s → whole.GotAppend (stand w logs sent) (whole_step (logs s.actor))
+  came_plain : GotAppend w s → whole.GotAppend now (whole_step whole_log)
   came_plain c = record { sender = c.sender; previous = c.previous; previous_term = c.previous_term; entries = c.entries; commit = c.commit; got = r.plain (Append c.sender s.after.term c.previous c.previous_term c.entries c.commit) tt c.got }
 
   -- The Append that came is a piece of the leader's log.
   piece : (c : GotAppend w s) → (g.leader s.after.term ≢ 0) × HasTerm (g.made s.after.term) c.previous c.previous_term × ((k : ℕ) (e : Entry) → slice_get c.entries k ≡ Some e → slice_get (g.made s.after.term) (c.previous + k) ≡ Some e)
   piece c = inv.append c.sender s.after.term c.previous c.previous_term c.entries c.commit (r.delivered (Append c.sender s.after.term c.previous c.previous_term c.entries c.commit) (r.plain (Append c.sender s.after.term c.previous c.previous_term c.entries c.commit) tt c.got))
 
-  no_snapshot : GotAppend w s → (n : ℕ) (l : List Entry) → (f t i it : ℕ) (ms : List ℕ) → s.got ≡ Some (Snapshot f t i it ms) → Share n l (logs s.actor)
+  no_snapshot : GotAppend w s → (n : ℕ) (l : List Entry) → (f t i it : ℕ) (ms : List ℕ) → s.got ≡ Some (Snapshot f t i it ms) → Share n l whole_log
   no_snapshot c n l f t i it ms e = absurd (let h = c.got in cc)
 
   -- a whole log with the same base
-  same_fit : (l : List Entry) → SameBase s.after (w.member s.actor) → s.after.log ≡ drop (w.member s.actor).base l → Share (w.member s.actor).base l (logs s.actor) → StandsForLog first s.after l
+  same_fit : (l : List Entry) → SameBase s.after me → s.after.log ≡ drop me.base l → Share me.base l whole_log → StandsForLog first s.after l
   same_fit l (eb, et, em) log both =
       let old = fit s.actor in
-      let back = share_sym l (logs s.actor) (w.member s.actor).base both in
+      let back = share_sym l whole_log me.base both in
       record {
-        fits = subst (λ n. n ≤ length l) (sym eb) (share_length (logs s.actor) l (w.member s.actor).base back);
+        fits = subst (λ n. n ≤ length l) (sym eb) (share_length whole_log l me.base back);
         log = log ∙ ap (λ n. drop n l) (sym eb);
-        base_term = subst (λ n. HasTerm l n s.after.base_term) (sym eb) (subst (HasTerm l (w.member s.actor).base) (sym et) (has_term_shared (logs s.actor) l (w.member s.actor).base (w.member s.actor).base (w.member s.actor).base_term back (le_refl (w.member s.actor).base) old.base_term));
-        members = em ∙ old.members ∙ ap (configuration_after first) (sym (share_take l (logs s.actor) (w.member s.actor).base both) ∙ ap (λ n. take n l) (sym eb));
+        base_term = subst (λ n. HasTerm l n s.after.base_term) (sym eb) (subst (HasTerm l me.base) (sym et) (has_term_shared whole_log l me.base me.base me.base_term back (le_refl me.base) old.base_term));
+        members = em ∙ old.members ∙ ap (configuration_after first) (sym (share_take l whole_log me.base both) ∙ ap (λ n. take n l) (sym eb));
         above = facts.above_base;
       }
 
@@ -73,80 +83,80 @@ module _ (first : List ℕ) (w : Cluster) (logs : ℕ → List Entry) (sent : Li
   keeps : KeepsLog w s → Outcome
   keeps k =
       let old = fit s.actor in
-      let both : (n : ℕ) → n ≤ length (logs s.actor) → Share n (logs s.actor) (logs s.actor) = λ n le. share_refl (logs s.actor) n le in
+      let both : (n : ℕ) → n ≤ length whole_log → Share n whole_log whole_log = λ n le. share_refl whole_log n le in
       record {
-        log = logs s.actor;
-        fits = same_fit (logs s.actor) k.0 (k.1 ∙ old.log) (both (w.member s.actor).base old.fits);
+        log = whole_log;
+        fits = same_fit whole_log k.0 (k.1 ∙ old.log) (both me.base old.fits);
         change = inl refl;
-        below = inl (subst (λ n. n ≤ (w.member s.actor).commit) (sym k.0.0) old.above, subst (λ n. Share n (logs s.actor) (logs s.actor)) (sym k.0.0) (both (w.member s.actor).base old.fits), λ f t i it ms e. both (w.member s.actor).commit commit_within);
+        below = inl (subst (λ n. n ≤ me.commit) (sym k.0.0) old.above, subst (λ n. Share n whole_log whole_log) (sym k.0.0) (both me.base old.fits), λ f t i it ms e. both me.commit commit_within);
       }
 
-  changes : (l : List Entry) (after : List ℕ) → ChangesAreSingle w s after → whole.ChangesAreSingle first (stand w logs sent) (whole_step l) after
+  changes : (l : List Entry) (after : List ℕ) → ChangesAreSingle w s after → whole.ChangesAreSingle first now (whole_step l) after
   changes l after c = record {
-    one_apart = subst (λ m. AreOneApart m after) (members_is first (w.member s.actor) (logs s.actor) (fit s.actor)) c.one_apart;
+    one_apart = subst (λ m. AreOneApart m after) (members_is first me whole_log (fit s.actor)) c.one_apart;
     settled = λ k e le is.
         let above = (fit s.actor).above in
-        c.settled (k - (w.member s.actor).base) e (omega (arith, above, le)) (at_log first (w.member s.actor) (logs s.actor) (fit s.actor) (k - (w.member s.actor).base) ∙ ap (slice_get (logs s.actor)) (omega (arith, above, le)) ∙ is);
-    own = own_entry c.own.0 c.own.1 c.own.2 (knows_has first (w.member s.actor) (logs s.actor) (fit s.actor) c.own.0 s.after.term c.own.3);
+        c.settled (k - me.base) e (omega (arith, above, le)) (at_log first me whole_log (fit s.actor) (k - me.base) ∙ ap (slice_get whole_log) (omega (arith, above, le)) ∙ is);
+    own = own_entry c.own.0 c.own.1 c.own.2 (knows_has first me whole_log (fit s.actor) c.own.0 s.after.term c.own.3);
   }
     where
-      own_entry : (i : ℕ) → 0 < i → i ≤ (w.member s.actor).commit → HasTerm (logs s.actor) i s.after.term → (k : ℕ) × (e : Entry) × (k < (w.member s.actor).commit) × (slice_get (logs s.actor) k ≡ Some e) × (e.term ≡ s.after.term)
+      own_entry : (i : ℕ) → 0 < i → i ≤ me.commit → HasTerm whole_log i s.after.term → (k : ℕ) × (e : Entry) × (k < me.commit) × (slice_get whole_log k ≡ Some e) × (e.term ≡ s.after.term)
       own_entry zero pos le has = absurd (omega arith)
       own_entry (suc k) pos le has = (k, has.0, le, has.1, has.2)
 
   creates : EntriesCreated w s → Outcome
   creates m =
       let old = fit s.actor in
-      let kept : (n : ℕ) → n ≤ length (logs s.actor) → Share n (logs s.actor ++ (m.entry ∷ [])) (logs s.actor) = λ n le. keep_push (logs s.actor) m.entry n le in
+      let kept : (n : ℕ) → n ≤ length whole_log → Share n (whole_log ++ (m.entry ∷ [])) whole_log = λ n le. keep_push whole_log m.entry n le in
       record {
-        log = logs s.actor ++ (m.entry ∷ []);
-        fits = same_fit (logs s.actor ++ (m.entry ∷ [])) m.base (m.result ∙ ap (λ l. l ++ (m.entry ∷ [])) old.log ∙ sym (drop-append_left (w.member s.actor).base (logs s.actor) (m.entry ∷ []) old.fits)) (kept (w.member s.actor).base old.fits);
-        change = inr (inl (record { entry = m.entry; own = m.own; leading = m.leading; result = refl; change = λ after is. changes (logs s.actor ++ (m.entry ∷ [])) after (m.change after is) }));
-        below = inl (subst (λ n. n ≤ (w.member s.actor).commit) (sym m.base.0) old.above, subst (λ n. Share n (logs s.actor ++ (m.entry ∷ [])) (logs s.actor)) (sym m.base.0) (kept (w.member s.actor).base old.fits), λ f t i it ms e. kept (w.member s.actor).commit commit_within);
+        log = whole_log ++ (m.entry ∷ []);
+        fits = same_fit (whole_log ++ (m.entry ∷ [])) m.base (m.result ∙ ap (λ l. l ++ (m.entry ∷ [])) old.log ∙ sym (drop-append_left me.base whole_log (m.entry ∷ []) old.fits)) (kept me.base old.fits);
+        change = inr (inl (record { entry = m.entry; own = m.own; leading = m.leading; result = refl; change = λ after is. changes (whole_log ++ (m.entry ∷ [])) after (m.change after is) }));
+        below = inl (subst (λ n. n ≤ me.commit) (sym m.base.0) old.above, subst (λ n. Share n (whole_log ++ (m.entry ∷ [])) whole_log) (sym m.base.0) (kept me.base old.fits), λ f t i it ms e. kept me.commit commit_within);
       }
 
   -- A replacement that begins at or after the base.
-  follows : (c : GotAppend w s) → SameBase s.after (w.member s.actor) → HasTerm (logs s.actor) c.previous c.previous_term
-      → (d : ℕ) (entry : Entry) → slice_get c.entries d ≡ Some entry → HasTerms (logs s.actor) c.previous c.entries d
-      → (length (logs s.actor) ≡ c.previous + d) ⊎ ((e : Entry) × (slice_get (logs s.actor) (c.previous + d) ≡ Some e) × (e.term ≢ entry.term))
-      → (w.member s.actor).base ≤ c.previous + d → s.after.log ≡ drop (w.member s.actor).base (take (c.previous + d) (logs s.actor) ++ drop d c.entries) → Outcome
+  follows : (c : GotAppend w s) → SameBase s.after me → HasTerm whole_log c.previous c.previous_term
+      → (d : ℕ) (entry : Entry) → slice_get c.entries d ≡ Some entry → HasTerms whole_log c.previous c.entries d
+      → (length whole_log ≡ c.previous + d) ⊎ ((e : Entry) × (slice_get whole_log (c.previous + d) ≡ Some e) × (e.term ≢ entry.term))
+      → me.base ≤ c.previous + d → s.after.log ≡ drop me.base (take (c.previous + d) whole_log ++ drop d c.entries) → Outcome
   follows c base has d entry there same differs above log =
       let old = fit s.actor in
-      let kept = keep_front (logs s.actor) (drop d c.entries) (c.previous + d) (w.member s.actor).base above old.fits in
+      let kept = keep_front whole_log (drop d c.entries) (c.previous + d) me.base above old.fits in
       record {
-        log = take (c.previous + d) (logs s.actor) ++ drop d c.entries;
-        fits = same_fit (take (c.previous + d) (logs s.actor) ++ drop d c.entries) base log kept;
+        log = take (c.previous + d) whole_log ++ drop d c.entries;
+        fits = same_fit (take (c.previous + d) whole_log ++ drop d c.entries) base log kept;
         change = inr (inr (record {
           came = record { sender = c.sender; previous = c.previous; previous_term = c.previous_term; entries = c.entries; commit = c.commit; got = r.plain (Append c.sender s.after.term c.previous c.previous_term c.entries c.commit) tt c.got };
           has = has;
           change = inr (record { kept = d; entry = entry; there = there; same = same; differs = differs; result = refl });
         }));
         below = inl (
-          subst (λ n. n ≤ (w.member s.actor).commit) (sym base.0) old.above,
-          subst (λ n. Share n (take (c.previous + d) (logs s.actor) ++ drop d c.entries) (logs s.actor)) (sym base.0) kept,
-          λ f t i it ms e. no_snapshot c (w.member s.actor).commit (take (c.previous + d) (logs s.actor) ++ drop d c.entries) f t i it ms e,
+          subst (λ n. n ≤ me.commit) (sym base.0) old.above,
+          subst (λ n. Share n (take (c.previous + d) whole_log ++ drop d c.entries) whole_log) (sym base.0) kept,
+          λ f t i it ms e. no_snapshot c me.commit (take (c.previous + d) whole_log ++ drop d c.entries) f t i it ms e,
         );
       }
 
   -- what is left of the whole log after the base
-  rest_is : (n m d : ℕ) (es : List Entry) → n ≡ (w.member s.actor).base + m → take m (w.member s.actor).log ++ drop d es ≡ drop (w.member s.actor).base (take n (logs s.actor) ++ drop d es)
+  rest_is : (n m d : ℕ) (es : List Entry) → n ≡ me.base + m → take m me.log ++ drop d es ≡ drop me.base (take n whole_log ++ drop d es)
   rest_is n m d es e =
       let old = fit s.actor in
       let fits = old.fits in
-      ap (λ l. l ++ drop d es) (ap (take m) old.log ∙ sym (drop-take_add (w.member s.actor).base m (logs s.actor)) ∙ ap (λ k. drop (w.member s.actor).base (take k (logs s.actor))) (sym e))
-      ∙ sym (drop-append_left (w.member s.actor).base (take n (logs s.actor)) (drop d es) (omega (arith, e, fits, length-take n (logs s.actor))))
+      ap (λ l. l ++ drop d es) (ap (take m) old.log ∙ sym (drop-take_add me.base m whole_log) ∙ ap (λ k. drop me.base (take k whole_log)) (sym e))
+      ∙ sym (drop-append_left me.base (take n whole_log) (drop d es) (omega (arith, e, fits, length-take n whole_log)))
 
   follows_above : FollowsAbove w s → Outcome
   follows_above f =
       let old = fit s.actor in
       let c = f.came in
-      let at = at_log first (w.member s.actor) (logs s.actor) old in
-      follows c f.base (knows_has first (w.member s.actor) (logs s.actor) old c.previous c.previous_term f.has)
+      let at = at_log first me whole_log old in
+      follows c f.base (knows_has first me whole_log old c.previous c.previous_term f.has)
       f.change.kept f.change.entry f.change.there
-      (λ k e less is. let x = f.change.same k e less is in (x.0, ap (slice_get (logs s.actor)) (omega (arith, f.previous_is)) ∙ sym (at (f.skip + k)) ∙ x.1, x.2))
+      (λ k e less is. let x = f.change.same k e less is in (x.0, ap (slice_get whole_log) (omega (arith, f.previous_is)) ∙ sym (at (f.skip + k)) ∙ x.1, x.2))
       (⊎_elim
-      (λ (e : length (w.member s.actor).log ≡ f.skip + f.change.kept). inl (omega (arith, e, f.previous_is, whole_length first (w.member s.actor) (logs s.actor) old)))
-      (λ x. inr (x.0, ap (slice_get (logs s.actor)) (omega (arith, f.previous_is)) ∙ sym (at (f.skip + f.change.kept)) ∙ x.1, x.2))
+      (λ (e : length me.log ≡ f.skip + f.change.kept). inl (omega (arith, e, f.previous_is, whole_length first me whole_log old)))
+      (λ x. inr (x.0, ap (slice_get whole_log) (omega (arith, f.previous_is)) ∙ sym (at (f.skip + f.change.kept)) ∙ x.1, x.2))
       f.change.differs)
       (omega (arith, f.previous_is))
       (f.change.result ∙ rest_is (c.previous + f.change.kept) (f.skip + f.change.kept) f.change.kept c.entries (omega (arith, f.previous_is)))
@@ -155,43 +165,43 @@ module _ (first : List ℕ) (w : Cluster) (logs : ℕ → List Entry) (sent : Li
   follows_below f =
       let old = fit s.actor in
       let c = f.came in
-      let at = at_log first (w.member s.actor) (logs s.actor) old in
+      let at = at_log first me whole_log old in
       let h = piece c in
       let above = old.above in
       let both = agree h.0 in
-      let skip : ℕ = (w.member s.actor).base - c.previous in
+      let skip : ℕ = me.base - c.previous in
       let below = f.below in
-      follows c f.base (has_term_shared (g.made s.after.term) (logs s.actor) (w.member s.actor).commit c.previous c.previous_term (share_sym (logs s.actor) (g.made s.after.term) (w.member s.actor).commit both) (omega (arith, above, below)) h.1)
+      follows c f.base (has_term_shared (g.made s.after.term) whole_log me.commit c.previous c.previous_term (share_sym whole_log (g.made s.after.term) me.commit both) (omega (arith, above, below)) h.1)
       (skip + f.change.kept) f.change.entry (sym (get-drop c.entries skip f.change.kept) ∙ f.change.there)
       (λ k e less is. ⊎_elim
-      (λ (low : k < skip). (e, share_at (g.made s.after.term) (logs s.actor) (w.member s.actor).commit (c.previous + k) e (share_sym (logs s.actor) (g.made s.after.term) (w.member s.actor).commit both) (omega (arith, low, above, below)) (h.2 k e is), refl))
+      (λ (low : k < skip). (e, share_at (g.made s.after.term) whole_log me.commit (c.previous + k) e (share_sym whole_log (g.made s.after.term) me.commit both) (omega (arith, low, above, below)) (h.2 k e is), refl))
       (λ (high : skip ≤ k).
       let x = f.change.same (k - skip) e (omega (arith, high, less)) (get-drop c.entries skip (k - skip) ∙ ap (slice_get c.entries) (omega (arith, high)) ∙ is) in
-      (x.0, ap (slice_get (logs s.actor)) (omega (arith, high, below)) ∙ sym (at (0 + (k - skip))) ∙ x.1, x.2))
+      (x.0, ap (slice_get whole_log) (omega (arith, high, below)) ∙ sym (at (0 + (k - skip))) ∙ x.1, x.2))
       (cases_lt k skip))
       (⊎_elim
-      (λ (e : length (w.member s.actor).log ≡ 0 + f.change.kept). inl (omega (arith, e, below, whole_length first (w.member s.actor) (logs s.actor) old)))
-      (λ x. inr (x.0, ap (slice_get (logs s.actor)) (omega (arith, below)) ∙ sym (at (0 + f.change.kept)) ∙ x.1, x.2))
+      (λ (e : length me.log ≡ 0 + f.change.kept). inl (omega (arith, e, below, whole_length first me whole_log old)))
+      (λ x. inr (x.0, ap (slice_get whole_log) (omega (arith, below)) ∙ sym (at (0 + f.change.kept)) ∙ x.1, x.2))
       f.change.differs)
       (omega (arith, below))
-      (f.change.result ∙ ap (λ l. take (0 + f.change.kept) (w.member s.actor).log ++ l) (drop-drop_add skip f.change.kept c.entries) ∙ rest_is (c.previous + (skip + f.change.kept)) (0 + f.change.kept) (skip + f.change.kept) c.entries (omega (arith, below)))
+      (f.change.result ∙ ap (λ l. take (0 + f.change.kept) me.log ++ l) (drop-drop_add skip f.change.kept c.entries) ∙ rest_is (c.previous + (skip + f.change.kept)) (0 + f.change.kept) (skip + f.change.kept) c.entries (omega (arith, below)))
 
   takes_snapshot : TakesSnapshot w s → Outcome
   takes_snapshot c =
       let old = fit s.actor in
-      let b = w.member s.actor in
-      let within : s.after.base ≤ length (logs s.actor) = let n = c.fits in omega (arith, c.base, n, whole_length first b (logs s.actor) old) in
+      let b = me in
+      let within : s.after.base ≤ length whole_log = let n = c.fits in omega (arith, c.base, n, whole_length first b whole_log old) in
       record {
-        log = logs s.actor;
+        log = whole_log;
         fits = record {
           fits = within;
-          log = c.log ∙ ap (drop c.n) old.log ∙ drop-drop_add b.base c.n (logs s.actor) ∙ ap (λ k. drop k (logs s.actor)) (sym c.base);
-          base_term = knows_has first b (logs s.actor) old s.after.base s.after.base_term c.term;
-          members = c.members ∙ ap₂ (λ m l. configuration_after m (take c.n l)) old.members old.log ∙ sym (configuration_after-append first (take b.base (logs s.actor)) (take c.n (drop b.base (logs s.actor)))) ∙ ap (configuration_after first) (sym (take-add_drop b.base c.n (logs s.actor)) ∙ ap (λ k. take k (logs s.actor)) (sym c.base));
+          log = c.log ∙ ap (drop c.n) old.log ∙ drop-drop_add b.base c.n whole_log ∙ ap (λ k. drop k whole_log) (sym c.base);
+          base_term = knows_has first b whole_log old s.after.base s.after.base_term c.term;
+          members = c.members ∙ ap₂ (λ m l. configuration_after m (take c.n l)) old.members old.log ∙ sym (configuration_after-append first (take b.base whole_log) (take c.n (drop b.base whole_log))) ∙ ap (configuration_after first) (sym (take-add_drop b.base c.n whole_log) ∙ ap (λ k. take k whole_log) (sym c.base));
           above = facts.above_base;
         };
         change = inl refl;
-        below = inl (c.committed, share_refl (logs s.actor) s.after.base within, λ f t i it ms e. share_refl (logs s.actor) b.commit commit_within);
+        below = inl (c.committed, share_refl whole_log s.after.base within, λ f t i it ms e. share_refl whole_log b.commit commit_within);
       }
 
   -- the front that a leader sent with its snapshot
@@ -204,24 +214,24 @@ module _ (first : List ℕ) (w : Cluster) (logs : ℕ → List Entry) (sent : Li
   installs : InstallsSnapshot w s → Outcome
   installs n =
       let old = fit s.actor in
-      let b = w.member s.actor in
+      let b = me in
       let got = r.snapshot n.sender s.after.term s.after.base s.after.base_term s.after.base_members n.got in
       let c = got.0 in
       let leading = front_of_office n.sender s.after.base_term s.after.base_members s.after.base c in
       let made_has : HasTerm (g.made s.after.term) s.after.base s.after.base_term = has_term_shared c.entries (g.made s.after.term) (length c.entries) s.after.base s.after.base_term leading.1 (le_of_eq (sym c.long)) c.has in
-      let matches = sound_matches g (logs s.actor) (g.made s.after.term) b.term s.after.term (inv.log s.actor) (inv.made s.after.term) in
+      let matches = sound_matches g whole_log (g.made s.after.term) b.term s.after.term (inv.log s.actor) (inv.made s.after.term) in
       let whole_es : take s.after.base c.entries ≡ c.entries = ap (λ k. take k c.entries) (sym c.long) ∙ take_all (length c.entries) c.entries (le_refl (length c.entries)) in
       let above = n.above in let under = old.above in
       ⊎_elim
       (λ x.
-      let has = knows_has first b (logs s.actor) old s.after.base s.after.base_term x.0 in
-      let both : Share s.after.base (logs s.actor) (g.made s.after.term) = reach_at (logs s.actor) (g.made s.after.term) s.after.base s.after.base_term matches has made_has in
-      let same : take s.after.base (logs s.actor) ≡ c.entries = share_take (logs s.actor) c.entries s.after.base (share_trans (logs s.actor) (g.made s.after.term) c.entries s.after.base both (share_sym c.entries (g.made s.after.term) s.after.base (share_less c.entries (g.made s.after.term) s.after.base (length c.entries) (le_of_eq (sym c.long)) leading.1))) ∙ whole_es in
+      let has = knows_has first b whole_log old s.after.base s.after.base_term x.0 in
+      let both : Share s.after.base whole_log (g.made s.after.term) = reach_at whole_log (g.made s.after.term) s.after.base s.after.base_term matches has made_has in
+      let same : take s.after.base whole_log ≡ c.entries = share_take whole_log c.entries s.after.base (share_trans whole_log (g.made s.after.term) c.entries s.after.base both (share_sym c.entries (g.made s.after.term) s.after.base (share_less c.entries (g.made s.after.term) s.after.base (length c.entries) (le_of_eq (sym c.long)) leading.1))) ∙ whole_es in
       record {
-        log = logs s.actor;
+        log = whole_log;
         fits = record {
-          fits = has_term_within (logs s.actor) s.after.base s.after.base_term has;
-          log = x.1 ∙ ap (drop (s.after.base - b.base)) old.log ∙ drop-drop_add b.base (s.after.base - b.base) (logs s.actor) ∙ ap (λ k. drop k (logs s.actor)) (omega (arith, above, under));
+          fits = has_term_within whole_log s.after.base s.after.base_term has;
+          log = x.1 ∙ ap (drop (s.after.base - b.base)) old.log ∙ drop-drop_add b.base (s.after.base - b.base) whole_log ∙ ap (λ k. drop k whole_log) (omega (arith, above, under));
           base_term = has;
           members = c.members ∙ ap (configuration_after first) (sym same);
           above = facts.above_base;
@@ -239,8 +249,8 @@ module _ (first : List ℕ) (w : Cluster) (logs : ℕ → List Entry) (sent : Li
       } in
       let h = inv.append n.sender s.after.term 0 0 c.entries c.commit c.is_sent in
       ⊎_elim
-      (λ all. absurd (x.0 (has_knows first b (logs s.actor) old s.after.base s.after.base_term (omega (arith, above, under)) (last_term c.entries s.after.base s.after.base_term all c.long (omega (arith, above)) c.has))))
-      (λ (d : Difference (logs s.actor) c.entries). record {
+      (λ all. absurd (x.0 (has_knows first b whole_log old s.after.base s.after.base_term (omega (arith, above, under)) (last_term c.entries s.after.base s.after.base_term all c.long (omega (arith, above)) c.has))))
+      (λ (d : Difference whole_log c.entries). record {
         log = c.entries;
         fits = fits;
         change = inr (inr (record {
@@ -254,22 +264,22 @@ module _ (first : List ℕ) (w : Cluster) (logs : ℕ → List Entry) (sent : Li
             differs = d.differs;
             result =
                 let up : d.d ≤ length c.entries = le_of_lt (slice_get_within c.entries d.d d.entry d.there) in
-                let both = reach (logs s.actor) (g.made s.after.term) 0 0 c.entries d.d matches refl refl h.2 d.same up in
+                let both = reach whole_log (g.made s.after.term) 0 0 c.entries d.d matches refl refl h.2 d.same up in
                 sym (ap (λ l. l ++ drop d.d c.entries)
-                (share_take (logs s.actor) c.entries (0 + d.d) (share_trans (logs s.actor) (g.made s.after.term) c.entries (0 + d.d) both (share_sym c.entries (g.made s.after.term) (0 + d.d) (share_less c.entries (g.made s.after.term) (0 + d.d) (length c.entries) (omega (arith, up)) leading.1))) ∙ ap (λ k. take k c.entries) (zero-add d.d))
+                (share_take whole_log c.entries (0 + d.d) (share_trans whole_log (g.made s.after.term) c.entries (0 + d.d) both (share_sym c.entries (g.made s.after.term) (0 + d.d) (share_less c.entries (g.made s.after.term) (0 + d.d) (length c.entries) (omega (arith, up)) leading.1))) ∙ ap (λ k. take k c.entries) (zero-add d.d))
                 ∙ take-append-drop d.d c.entries);
           });
         }));
         below = inr (n, share_less c.entries (g.made s.after.term) s.after.base (length c.entries) (le_of_eq (sym c.long)) leading.1);
       })
-      (first_difference (logs s.actor) c.entries (length c.entries) (le_refl (length c.entries))))
+      (first_difference whole_log c.entries (length c.entries) (le_refl (length c.entries))))
       n.log
     where
-      last_term : (es : List Entry) (i it : ℕ) → HasTerms (logs s.actor) 0 es (length es) → length es ≡ i → 0 < i → HasTerm es i it → HasTerm (logs s.actor) i it
+      last_term : (es : List Entry) (i it : ℕ) → HasTerms whole_log 0 es (length es) → length es ≡ i → 0 < i → HasTerm es i it → HasTerm whole_log i it
       last_term es zero it all long pos has = absurd (omega arith)
       last_term es (suc j) it all long pos has =
           let x = all j has.0 (omega (arith, long)) has.1 in
-          (x.0, ap (slice_get (logs s.actor)) (sym (zero-add j)) ∙ x.1, x.2 ∙ has.2)
+          (x.0, ap (slice_get whole_log) (sym (zero-add j)) ∙ x.1, x.2 ∙ has.2)
 
   -- All cases.
   pub outcome : Outcome
@@ -278,12 +288,12 @@ module _ (first : List ℕ) (w : Cluster) (logs : ℕ → List Entry) (sent : Li
   -- Up to the base the log is the leader's, where an Append of it came.
   low_made : (o : Outcome) → GotAppend w s → Share s.after.base o.log (g.made s.after.term)
   low_made o c = ⊎_elim
-      (λ x. share_trans o.log (logs s.actor) (g.made s.after.term) s.after.base x.1 (share_less (logs s.actor) (g.made s.after.term) s.after.base (w.member s.actor).commit x.0 (agree (piece c).0)))
+      (λ x. share_trans o.log whole_log (g.made s.after.term) s.after.base x.1 (share_less whole_log (g.made s.after.term) s.after.base me.commit x.0 (agree (piece c).0)))
       (λ x. absurd (let a = x.0.got in let b = c.got in cc))
       o.below
 
   -- What an acknowledgement says of the whole log.
-  abbrev acknowledges : (o : Outcome) (j : ℕ) → Acknowledges w s j → whole.Acknowledges (stand w logs sent) (whole_step o.log) j
+  abbrev acknowledges : (o : Outcome) (j : ℕ) → Acknowledges w s j → whole.Acknowledges now (whole_step o.log) j
   acknowledges o j a = record {
     came = record { sender = a.came.sender; previous = a.came.previous; previous_term = a.came.previous_term; entries = a.came.entries; commit = a.came.commit; got = r.plain (Append a.came.sender s.after.term a.came.previous a.came.previous_term a.came.entries a.came.commit) tt a.came.got };
     index_is = a.index_is;
@@ -297,7 +307,7 @@ module _ (first : List ℕ) (w : Cluster) (logs : ℕ → List Entry) (sent : Li
         (cases_lt (a.came.previous + k) s.after.base);
   }
 
-  abbrev snapshot_acknowledges : (l : List Entry) (f i it : ℕ) (ms : List ℕ) (x : (c : Carries first sent f s.after.term i it ms) × (r.got ≡ Some (Append f s.after.term 0 0 c.entries c.commit))) → Share i l (g.made s.after.term) → whole.Acknowledges (stand w logs sent) (whole_step l) i
+  abbrev snapshot_acknowledges : (l : List Entry) (f i it : ℕ) (ms : List ℕ) (x : (c : Carries first sent f s.after.term i it ms) × (r.got ≡ Some (Append f s.after.term 0 0 c.entries c.commit))) → Share i l (g.made s.after.term) → whole.Acknowledges now (whole_step l) i
   snapshot_acknowledges l f i it ms x both = record {
     came = record { sender = f; previous = 0; previous_term = 0; entries = x.0.entries; commit = x.0.commit; got = x.1 };
     index_is = sym x.0.long ∙ sym (zero-add (length x.0.entries));
@@ -312,13 +322,13 @@ module _ (first : List ℕ) (w : Cluster) (logs : ℕ → List Entry) (sent : Li
   installed_made o n = ⊎_elim (λ x. absurd (let a = n.above in let b = x.0 in omega (arith, a, b))) (λ x. x.1) o.below
 
   -- A Done acknowledges the whole front.
-  finishes : (o : Outcome) (j : ℕ) → Finishes w s j → whole.Acknowledges (stand w logs sent) (whole_step o.log) j
+  finishes : (o : Outcome) (j : ℕ) → Finishes w s j → whole.Acknowledges now (whole_step o.log) j
   finishes o j f =
       let got = r.snapshot f.sender s.after.term j f.index_term f.members f.got in
       snapshot_acknowledges o.log f.sender j f.index_term f.members got (⊎_elim
       (λ x. subst (λ n. Share n o.log (g.made s.after.term)) (sym x.1) (installed_made o x.0))
-      (λ (le : j ≤ (w.member s.actor).commit). ⊎_elim
-      (λ x. share_less o.log (g.made s.after.term) j (w.member s.actor).commit le (share_trans o.log (logs s.actor) (g.made s.after.term) (w.member s.actor).commit (x.2 f.sender s.after.term j f.index_term f.members f.got) (agree (front_of_office f.sender f.index_term f.members j got.0).0)))
+      (λ (le : j ≤ me.commit). ⊎_elim
+      (λ x. share_less o.log (g.made s.after.term) j me.commit le (share_trans o.log whole_log (g.made s.after.term) me.commit (x.2 f.sender s.after.term j f.index_term f.members f.got) (agree (front_of_office f.sender f.index_term f.members j got.0).0)))
       (λ x. share_less o.log (g.made s.after.term) j s.after.base (let a = x.0.above in omega (arith, a, le)) x.1)
       o.below)
       f.done)
@@ -382,33 +392,33 @@ module _ (first : List ℕ) (w : Cluster) (logs : ℕ → List Entry) (sent : Li
       from (ForDone v' to' t' j' at e) = absurd (cc)
 
   -- An election is won on whole logs.
-  wins : WinsElection w s → (l : List Entry) → whole.WinsElection first (stand w logs sent) (whole_step l)
+  wins : WinsElection w s → (l : List Entry) → whole.WinsElection first now (whole_step l)
   wins k l =
       let old = fit s.actor in
-      let b = w.member s.actor in
+      let b = me in
       record {
         vote = k.vote;
         fresh = λ i e is. ⊎_elim
             (λ (h : i < b.base). under i e is b.base b.base_term refl h old.base_term (k.fresh b.base_term b.base (inl (refl, refl))))
-            (λ (h : b.base ≤ i). k.fresh e.term (suc i) (has_knows first b (logs s.actor) old (suc i) e.term (omega (arith, h)) (e, is, refl)))
+            (λ (h : b.base ≤ i). k.fresh e.term (suc i) (has_knows first b whole_log old (suc i) e.term (omega (arith, h)) (e, is, refl)))
             (cases_lt i b.base);
-        spelled = λ lt li has. ends_has first b (logs s.actor) old lt li (k.spelled lt li (heard.asked s.actor s.after.term lt li has));
+        spelled = λ lt li has. ends_has first b whole_log old lt li (k.spelled lt li (heard.asked s.actor s.after.term lt li has));
         quorum = (
           k.quorum.0,
-          subst (λ m. length m < 2 * count_by k.quorum.0 m) (members_is first b (logs s.actor) old) k.quorum.1,
+          subst (λ m. length m < 2 * count_by k.quorum.0 m) (members_is first b whole_log old) k.quorum.1,
           λ v chosen. ⊎_elim inl (λ said. inr (heard.plain (Voted v s.actor s.after.term) tt said)) (k.quorum.2 v chosen),
         );
       }
     where
-      under : (i : ℕ) (e : Entry) → slice_get (logs s.actor) i ≡ Some e → (n t : ℕ) → n ≡ (w.member s.actor).base → i < n → HasTerm (logs s.actor) n t → t < s.after.term → e.term < s.after.term
+      under : (i : ℕ) (e : Entry) → slice_get whole_log i ≡ Some e → (n t : ℕ) → n ≡ me.base → i < n → HasTerm whole_log n t → t < s.after.term → e.term < s.after.term
       under i e is zero t en less has low = absurd (omega arith)
       under i e is (suc j) t en less has low =
           let root = (inv.log s.actor).rooted j has.0 has.1 in
-          let up = (inv.made has.0.term).upto i e (share_at (logs s.actor) (g.made has.0.term) (suc j) i e root less is) in
+          let up = (inv.made has.0.term).upto i e (share_at whole_log (g.made has.0.term) (suc j) i e root less is) in
           omega (arith, up, has.2, low)
 
   -- A commit by a quorum.
-  leader_commits : (o : Outcome) → LeaderCommits w s → whole.LeaderCommits first (stand w logs sent) (whole_step o.log)
+  leader_commits : (o : Outcome) → LeaderCommits w s → whole.LeaderCommits first now (whole_step o.log)
   leader_commits o c = record {
     leads = c.leads;
     own = knows_has first s.after o.log o.fits s.after.commit s.after.term c.own;
@@ -422,7 +432,7 @@ module _ (first : List ℕ) (w : Cluster) (logs : ℕ → List Entry) (sent : Li
   }
 
   -- A commit by an Append or by an installed snapshot.
-  follower_commits : (o : Outcome) → FollowerCommits w s ⊎ InstallsSnapshot w s → whole.FollowerCommits (stand w logs sent) (whole_step o.log)
+  follower_commits : (o : Outcome) → FollowerCommits w s ⊎ InstallsSnapshot w s → whole.FollowerCommits now (whole_step o.log)
   follower_commits o (inl c) = record { index = c.index; acknowledges = acknowledges o c.index c.acknowledges; told = c.told; reached = c.reached }
   follower_commits o (inr n) =
       let got = r.snapshot n.sender s.after.term s.after.base s.after.base_term s.after.base_members n.got in
@@ -434,7 +444,7 @@ module _ (first : List ℕ) (w : Cluster) (logs : ℕ → List Entry) (sent : Li
       }
 
   -- The step meets the facts on whole logs.
-  pub step_facts : (o : Outcome) → whole.Facts first (stand w logs sent) (whole_step o.log)
+  pub step_facts : (o : Outcome) → whole.Facts first now (whole_step o.log)
   step_facts o = record {
     others = record {
       messages_delivered = record { named = facts.named; delivered = r.delivered };
@@ -531,5 +541,5 @@ module _ (first : List ℕ) (w : Cluster) (logs : ℕ → List Entry) (sent : Li
         (λ ne. put_other (λ m. standing (w.member m) (logs m)) s.actor (standing s.after o.log) j ne ∙ sym (ap₂ standing (put_other w.member s.actor s.after j ne) (put_other logs s.actor o.log j ne)))
         (cases_eq j s.actor)
 
-    pub next_stand : whole.after_step (stand w logs sent) (whole_step o.log) ≡ stand (after_step w s) next_whole next_sent
+    pub next_stand : whole.after_step now (whole_step o.log) ≡ stand (after_step w s) next_whole next_sent
     next_stand = λ i. record { member = fun_ext stand_put i; sent = next_sent }

@@ -1,0 +1,47 @@
+-- What a step changes of the ghost: the log of the term that it leads, and that log at the election where it wins it.
+use Rattle.cp_rules.specs.Entries.{Entry, members_in}
+use Rattle.cp_rules.specs.Configurations.{AreOneApart, HasQuorum, configuration_after}
+use Rattle.cp_rules.specs.Logs.{EndsAt, HasEntries, HasTerm, IsUpToDate}
+use Rattle.cp_rules.specs.Clusters.{Append, Appended, Vote, Voted, put}
+use Rattle.cp_agreement.specs.WholeLogs.{Acknowledges, Cluster, EntriesCreated, Facts, FollowerCommits, FollowsLeader, GotAppend, LeaderCommits, Step, WinsElection, after_step}
+use Rattle.std.proofs.Common.{◌≡◌, ◌≢◌, ℕ, zero, suc, ◌+◌, ◌*◌, ◌<◌, ◌≤◌, ◌⊎◌, inl, inr, ⊎_elim, true, false, List, [], ◌∷◌, length, refl, ap, sym, ◌∙◌, arith, subst, Some, slice_get, Contains, le_refl, le_trans, le_of_eq, true≢false, lt_of_lt_of_le, lt-suc_self, count_by, le_of_lt}
+use Rattle.std.proofs.lemmas.Bool.{cases_lt, cases_eq, cases_Bool, ne_eqb}
+use Rattle.std.proofs.lemmas.Option.{slice_get_within, same_Some}
+use Rattle.std.proofs.lemmas.List.Elements.{Contains-append_left, Contains-append_cases}
+use Rattle.cp_agreement.proofs.Logs.{Share, Differ, share_at, share_sym, share_trans, share_less, has_place, get-append_left, push_cases, share_refl, share_length, longer, has_term_grows, ends_somewhere, up_to_date_trans, differ_shared, own_unchanged, kept_or_differ, replaced_front, reach}
+use Rattle.cp_agreement.proofs.Quorums.{quorum_members_meet}
+use Rattle.cp_agreement.proofs.Ghost.{Ghost, Backs, Clash, EndsPast, Chosen, Committed, Sound, Invariant, Prepared, Election, ghost_after, leader_after, made_after, won_after, put_same, put_other, at_each}
+use Rattle.cp_agreement.proofs.Configurations.{QuietFrom, same_configuration}
+use Rattle.cp_agreement.proofs.Complete.{complete, rivals_adjacent, sound_matches, sound_front}
+
+module _ (w : Cluster) (g : Ghost) (s : Step) where
+  -- how the ghost changes
+  pub made_ne : (t : ℕ) → t ≢ s.after.term → (ghost_after w g s).made t ≡ g.made t
+  made_ne t ne = put_other g.made s.after.term (made_after w g s) t ne
+
+  pub made_in : (t : ℕ) → s.leads ≡ true → t ≡ s.after.term → (ghost_after w g s).made t ≡ s.after.log
+  made_in t leading e = put_same g.made s.after.term (made_after w g s) t e ∙ rw leading refl
+
+  pub made_out : (t : ℕ) → s.leads ≡ false → (ghost_after w g s).made t ≡ g.made t
+  made_out t leading = ⊎_elim (λ e. put_same g.made s.after.term (made_after w g s) t e ∙ rw (leading, e) refl) (made_ne t) (cases_eq t s.after.term)
+
+  pub leader_ne : (t : ℕ) → t ≢ s.after.term → (ghost_after w g s).leader t ≡ g.leader t
+  leader_ne t ne = put_other g.leader s.after.term (leader_after w g s) t ne
+
+  pub leader_in : (t : ℕ) → s.leads ≡ true → t ≡ s.after.term → (ghost_after w g s).leader t ≡ s.actor
+  leader_in t leading e = put_same g.leader s.after.term (leader_after w g s) t e ∙ rw leading refl
+
+  pub leader_out : (t : ℕ) → s.leads ≡ false → (ghost_after w g s).leader t ≡ g.leader t
+  leader_out t leading = ⊎_elim (λ e. put_same g.leader s.after.term (leader_after w g s) t e ∙ rw (leading, e) refl) (leader_ne t) (cases_eq t s.after.term)
+
+  pub won_ne : (t : ℕ) → t ≢ s.after.term → (ghost_after w g s).won t ≡ g.won t
+  won_ne t ne = put_other g.won s.after.term (won_after w g s) t ne
+
+  pub won_took : (t : ℕ) → s.leads ≡ true → g.leader t ≡ 0 → t ≡ s.after.term → (ghost_after w g s).won t ≡ (w.member s.actor).log
+  won_took t leading none e = put_same g.won s.after.term (won_after w g s) t e ∙ rw (leading, ← e, none) refl
+
+  pub won_out : (t : ℕ) → s.leads ≡ false → (ghost_after w g s).won t ≡ g.won t
+  won_out t leading = ⊎_elim (λ e. put_same g.won s.after.term (won_after w g s) t e ∙ rw (leading, e) refl) (won_ne t) (cases_eq t s.after.term)
+
+  pub won_held : (t : ℕ) → g.leader t ≢ 0 → (ghost_after w g s).won t ≡ g.won t
+  won_held t held = ⊎_elim (λ e. put_same g.won s.after.term (won_after w g s) t e ∙ ⊎_elim (λ (leading : s.leads ≡ true). rw (leading, ← e, ne_eqb (g.leader t) 0 held) refl) (λ (leading : s.leads ≡ false). rw (leading, e) refl) (cases_Bool s.leads)) (won_ne t) (cases_eq t s.after.term)
