@@ -162,7 +162,8 @@ pub record LogsFollow (w : Cluster) (s : Step) : Type 0 where
   pub log : KeepsLog w s ⊎ (EntriesCreated w s ⊎ (FollowsAbove w s ⊎ (FollowsBelow w s ⊎ (TakesSnapshot w s ⊎ InstallsSnapshot w s))))
   pub append : (sender term previous previous_term : ℕ) (entries : List Entry) (commit : ℕ) → Contains s.sends (Append sender term previous previous_term entries commit)
       → SendsAppend s sender term previous previous_term entries commit
-  pub snapshot : (sender term index index_term : ℕ) (members : List ℕ) → Contains s.sends (Snapshot sender term index index_term members) → SendsSnapshot s sender term index index_term members
+  pub snapshot : (sender term index index_term : ℕ) (members : List ℕ) → Contains s.sends (Snapshot sender term index index_term members)
+      → SendsSnapshot s sender term index index_term members
   pub ask : (candidate term last_term last_index : ℕ) → Contains s.sends (Vote candidate term last_term last_index) → SendsVote s candidate term last_term last_index
 
 -- After the step the member's log has what the Append that came says, up to this index, as far as it lies above the base.
@@ -182,7 +183,8 @@ pub record Finishes (w : Cluster) (s : Step) (index : ℕ) : Type 0 where
 
 -- Acknowledgements are true.
 pub record AppendsAcknowledged (w : Cluster) (s : Step) : Type 0 where
-  pub appended : (member to term index : ℕ) → Contains s.sends (Appended member to term index) → (member ≡ s.actor) × (term ≡ s.after.term) × Acknowledges w s index
+  pub appended : (member to term index : ℕ) → Contains s.sends (Appended member to term index)
+      → (member ≡ s.actor) × (term ≡ s.after.term) × Acknowledges w s index
   pub done : (member to term index : ℕ) → Contains s.sends (Done member to term index) → (member ≡ s.actor) × (term ≡ s.after.term) × Finishes w s index
 
 -- The member has acknowledged an index of the term, or a higher one.

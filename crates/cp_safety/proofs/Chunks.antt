@@ -4,9 +4,10 @@ use Rattle.std.proofs.lemmas.Bool.{cases_eq, cases_Bool}
 use Rattle.std.proofs.lemmas.List.{append_assoc, append-nil}
 use Rattle.std.proofs.lemmas.List.Elements.{Contains-append_left, Contains-append_right, Contains-append_cases}
 use Rattle.std.proofs.lemmas.Option.{same_Some}
-use Rattle.cp_rules.specs.Clusters.{Message, Snapshot, Cluster, cluster_after, put}
-use Rattle.cp_safety.specs.Tracking.{TrackedStep, TrackedFacts, MeetsTrackedFacts, restarted, tracked_after, untracked_steps}
-use Rattle.cp_safety.specs.Chunks.{SnapshotReader, Received, ChunkedMember, Wire, AsItIs, Chunk, ChunkedStep, chunked_restart, chunked_after, seen_got, seen_sent, seen_step, Joins, IsPiece, SameSnapshot, NewSnapshot, ChunkedFacts, MeetsChunkedFacts, HadSnapshot, SeenThrough}
+use Rattle.cp_rules.specs.Clusters.{Step, Message, Snapshot, Cluster, cluster_after, put}
+use Rattle.cp_rules.specs.Facts.{MeetsFacts}
+use Rattle.cp_safety.specs.Tracking.{untracked, untracked_step, TrackedStep, TrackedFacts, MeetsTrackedFacts, restarted, tracked_after, untracked_steps}
+use Rattle.cp_safety.specs.Chunks.{SnapshotReader, Received, ChunkedMember, Wire, AsItIs, Chunk, ChunkedStep, chunked_restart, chunked_after, seen_got, seen_sent, seen_step, Joins, IsPiece, SameSnapshot, NewSnapshot, ChunkedFacts, MeetsChunkedFacts, HadSnapshot, MembersThrough}
 use Rattle.cp_agreement.proofs.Ghost.{put_same, put_other}
 use Rattle.cp_safety.proofs.Lists.{contains_map}
 use Rattle.cp_safety.proofs.Executions.{senders}
@@ -57,6 +58,12 @@ record Shown (reader : SnapshotReader) (first : List ℕ) (steps : List ChunkedS
       × Contains sent (Snapshot f t i (reader.term_of (text f i)) (reader.members_of (text f i))) × HadSnapshot first steps f i (text f i)
   received : (m : ℕ) (r : Received) → ((chunked_after first steps).member m).received ≡ Some r
       → (f : ℕ) × (i : ℕ) × (offset : ℕ) × (last : Bool) × (bytes : List ℕ) × Contains (chunked_after first steps).sent (Chunk f r.term i offset last bytes) × (i ≡ r.index) × IsFront (text f i) r.bytes
+
+-- At each moment of the execution each member is the one of an execution of tracked members.
+abbrev SeenThrough : List ℕ → List ChunkedStep → List TrackedStep → Type 0
+SeenThrough first [] tracked = tracked ≡ []
+SeenThrough first (s ∷ steps) tracked = (p : TrackedStep) × (ps : List TrackedStep) × (tracked ≡ p ∷ ps)
+    × ((m : ℕ) → (tracked_after first tracked).member m ≡ ((chunked_after first (s ∷ steps)).member m).tracked) × SeenThrough first steps ps
 
 -- The execution with whole snapshots, beside the one with chunks.
 record Beside (reader : SnapshotReader) (first : List ℕ) (steps : List ChunkedStep) : Type 0 where
@@ -311,9 +318,23 @@ beside reader first [] meets = record {
 }
 beside reader first (s ∷ before) meets = next reader first before (beside reader first before meets.1) s meets.0
 
+-- Without what they count, tracked members are the members of an execution that meets the facts.
+without_counts : (first : List ℕ) (steps : List ChunkedStep) (tracked : List TrackedStep) → SeenThrough first steps tracked → MembersThrough first steps (untracked_steps tracked)
+without_counts first [] tracked through = ap untracked_steps through
+without_counts first (s ∷ steps) tracked (p, ps, is, same, rest) = (
+  untracked_step p,
+  untracked_steps ps,
+  ap untracked_steps is,
+  λ m. sym (ap (λ (w : Cluster). w.member m) (untracked_after first tracked)) ∙ ap untracked (same m),
+  without_counts first steps ps rest,
+)
+
 pub chunked_executions : (reader : SnapshotReader) (first : List ℕ) (steps : List ChunkedStep) → MeetsChunkedFacts reader first steps
-    → (tracked : List TrackedStep) × MeetsTrackedFacts first tracked × SeenThrough first steps tracked
-chunked_executions reader first steps meets = let b = beside reader first steps meets in (b.tracked, b.meets, b.through)
+    → (whole_snapshots : List Step) × MeetsFacts first whole_snapshots × MembersThrough first steps whole_snapshots
+chunked_executions reader first steps meets =
+    let b = beside reader first steps meets in
+    (untracked_steps b.tracked, tracked_meets first b.tracked b.meets, without_counts first steps b.tracked b.through)
+
 
 -- What is joined is a snapshot that the sender had.
 pub chunks_join : (reader : SnapshotReader) (first : List ℕ) (s : ChunkedStep) (steps : List ChunkedStep) → MeetsChunkedFacts reader first (s ∷ steps)

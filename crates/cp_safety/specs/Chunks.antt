@@ -1,8 +1,8 @@
 -- Members that send a snapshot in chunks. A chunk stands for the whole snapshot, with the term and the configuration that its bytes
 -- begin with; what a member joins from chunks of one term and index is one snapshot.
 use Rattle.std.specs.Prelude.{◌≡◌, ℕ, ◌<◌, ◌⊎◌, Bool, true, List, [], ◌∷◌, ◌++◌, length, map, Option, Some, None, Contains, if◌then◌else◌}
-use Rattle.cp_rules.specs.Clusters.{Message, Snapshot, put}
-use Rattle.cp_safety.specs.Tracking.{TrackedMember, TrackedCluster, TrackedStep, TrackedFacts, restarted, tracked_opening, tracked_after}
+use Rattle.cp_rules.specs.Clusters.{Message, Snapshot, put, Step, cluster_after}
+use Rattle.cp_safety.specs.Tracking.{TrackedMember, TrackedCluster, TrackedStep, TrackedFacts, restarted, tracked_opening, untracked}
 
 -- How a snapshot's bytes are read: the term of its index, and the configuration there.
 pub record SnapshotReader : Type 0 where
@@ -136,8 +136,8 @@ abbrev pub HadSnapshot : List ℕ → List ChunkedStep → ℕ → ℕ → List 
 HadSnapshot first [] f index text = ⊥
 HadSnapshot first (s ∷ before) f index text = ((s.actor ≡ f) × (s.after.tracked.base ≡ index) × (s.after.snapshot ≡ text)) ⊎ HadSnapshot first before f index text
 
--- At each moment of the execution each member is the one of an execution of tracked members.
-abbrev pub SeenThrough : List ℕ → List ChunkedStep → List TrackedStep → Type 0
-SeenThrough first [] tracked = tracked ≡ []
-SeenThrough first (s ∷ steps) tracked = (p : TrackedStep) × (ps : List TrackedStep) × (tracked ≡ p ∷ ps)
-    × ((m : ℕ) → (tracked_after first tracked).member m ≡ ((chunked_after first (s ∷ steps)).member m).tracked) × SeenThrough first steps ps
+-- At each moment of the execution each member, without what it counts and receives, is the one of another.
+abbrev pub MembersThrough : List ℕ → List ChunkedStep → List Step → Type 0
+MembersThrough first [] others = others ≡ []
+MembersThrough first (s ∷ steps) others = (p : Step) × (ps : List Step) × (others ≡ p ∷ ps)
+    × ((m : ℕ) → (cluster_after first others).member m ≡ untracked ((chunked_after first (s ∷ steps)).member m).tracked) × MembersThrough first steps ps

@@ -7,7 +7,7 @@ use Rattle.cp_rules.specs.Clusters.{Member, Cluster, Step, IsMoment, cluster_aft
 use Rattle.cp_rules.specs.Facts.{KnowsTerm, MeetsFacts}
 use Rattle.cp_agreement.specs.WholeLogs as whole
 use Rattle.cp_safety.specs.Standing.{StandsThrough}
-use Rattle.cp_safety.specs.Chunks.{SnapshotReader, ChunkedStep, MeetsChunkedFacts, chunked_after, Joins, HadSnapshot, SeenThrough}
+use Rattle.cp_safety.specs.Chunks.{SnapshotReader, ChunkedStep, MeetsChunkedFacts, chunked_after, Joins, HadSnapshot, MembersThrough}
 use Rattle.cp_safety.specs.Tracking.{TrackedStep, MeetsTrackedFacts, untracked_steps, untracked_cluster, tracked_after}
 
 -- P holds of any two members at any two moments of any execution that meets the facts.
@@ -75,10 +75,10 @@ abbrev pub TrackedExecutions : Type 0
 TrackedExecutions = (first : List ℕ) (steps : List TrackedStep) → MeetsTrackedFacts first steps
     → MeetsFacts first (untracked_steps steps) × (untracked_cluster (tracked_after first steps) ≡ cluster_after first (untracked_steps steps))
 
--- Members that send snapshots in chunks are at each moment tracked members that meet the facts.
+-- Members that send snapshots in chunks are at each moment the members of an execution that meets the facts.
 abbrev pub ChunkedExecutions : Type 0
 ChunkedExecutions = (reader : SnapshotReader) (first : List ℕ) (steps : List ChunkedStep) → MeetsChunkedFacts reader first steps
-    → (tracked : List TrackedStep) × MeetsTrackedFacts first tracked × SeenThrough first steps tracked
+    → (whole_snapshots : List Step) × MeetsFacts first whole_snapshots × MembersThrough first steps whole_snapshots
 
 -- What a step joins from a last chunk is a snapshot of that index that the chunk's sender had.
 abbrev pub ChunksJoin : Type 0

@@ -135,7 +135,8 @@ Rests w s = KeepsLog (untracked_cluster w) (uncut_step s) ⊎ TakesSnapshot (unt
 
 -- the whole log changes
 abbrev pub Moves : TrackedCluster → TrackedStep → Type 0
-Moves w s = EntriesCreated (untracked_cluster w) (uncut_step s) ⊎ (FollowsAbove (untracked_cluster w) (uncut_step s) ⊎ (FollowsBelow (untracked_cluster w) (uncut_step s) ⊎ InstallsSnapshot (untracked_cluster w) (uncut_step s)))
+Moves w s = EntriesCreated (untracked_cluster w) (uncut_step s)
+    ⊎ (FollowsAbove (untracked_cluster w) (uncut_step s) ⊎ (FollowsBelow (untracked_cluster w) (uncut_step s) ⊎ InstallsSnapshot (untracked_cluster w) (uncut_step s)))
 
 -- what each message that the step sends says, by its kind
 abbrev pub SendsTruly : TrackedCluster → TrackedStep → Message → Type 0
