@@ -45,3 +45,10 @@ module _ (w : Cluster) (g : Ghost) (s : Step) where
 
   pub won_held : (t : ℕ) → g.leader t ≢ 0 → (ghost_after w g s).won t ≡ g.won t
   won_held t held = ⊎_elim (λ e. put_same g.won s.after.term (won_after w g s) t e ∙ ⊎_elim (λ (leading : s.leads ≡ true). rw (leading, ← e, ne_eqb (g.leader t) 0 held) refl) (λ (leading : s.leads ≡ false). rw (leading, e) refl) (cases_Bool s.leads)) (won_ne t) (cases_eq t s.after.term)
+
+  -- A leader's log has what it had, or what the step left.
+  pub made_cases : (t : ℕ) → ((ghost_after w g s).made t ≡ g.made t) ⊎ ((ghost_after w g s).made t ≡ s.after.log)
+  made_cases t = ⊎_elim
+      (λ (same : t ≡ s.after.term). ⊎_elim (λ (leads : s.leads ≡ true). inr (made_in t leads same)) (λ (not : s.leads ≡ false). inl (made_out t not)) (cases_Bool s.leads))
+      (λ ne. inl (made_ne t ne))
+      (cases_eq t s.after.term)

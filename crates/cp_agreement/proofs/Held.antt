@@ -1,5 +1,5 @@
 -- What is committed is held now by a quorum of the configuration in force for it, or of an adjacent one.
-use Rattle.std.proofs.Common.{◌≡◌, ℕ, zero, suc, ◌<◌, ◌≤◌, inl, inr, ⊎_elim, List, length, take, sym, ◌∙◌, arith, subst, subst₂, Some, slice_get, length-take}
+use Rattle.std.proofs.Common.{◌≡◌, refl, ℕ, zero, suc, ◌<◌, ◌≤◌, inl, inr, ⊎_elim, List, length, take, sym, ◌∙◌, arith, subst, subst₂, Some, slice_get, length-take}
 use Rattle.std.proofs.lemmas.Bool.{cases_lt}
 use Rattle.std.proofs.lemmas.Option.{slice_get_within}
 use Rattle.cp_rules.specs.Entries.{Entry}
@@ -29,6 +29,11 @@ module _ (first : List ℕ) (w : Cluster) (g : Ghost) (inv : Invariant first w g
   -- A quorum of an adjacent configuration has the front up to place i.
   pub record Holds (t i : ℕ) : Type 0 where
     pub members : List ℕ
+    -- the configuration is that of the log of a leader, when it counted
+    pub term : ℕ
+    pub till : List Entry
+    pub front : Share (length till) till (g.made term)
+    pub members_are : members ≡ configuration_after first till
     pub near : AreAdjacent (configuration_after first (take (suc i) (g.made t))) members
     pub by : HasQuorum members (λ v. Share (suc i) (w.member v).log (g.made t))
 
@@ -36,6 +41,10 @@ module _ (first : List ℕ) (w : Cluster) (g : Ghost) (inv : Invariant first w g
   by_own : (t k : ℕ) → (c : Chosen first w g t k) → (i : ℕ) → i ≤ k → AreAdjacent (configuration_after first (take (suc i) (g.made t))) (configuration_after first c.till) → Holds t i
   by_own t k c i le near = record {
     members = configuration_after first c.till;
+    term = t;
+    till = c.till;
+    front = c.front;
+    members_are = refl;
     near = near;
     by = (c.quorum.0, c.quorum.1, λ v chosen. share_less (w.member v).log (g.made t) (suc i) (suc k) (omega arith) (still_has t k c v (c.quorum.2 v chosen)));
   }
@@ -77,6 +86,10 @@ module _ (first : List ℕ) (w : Cluster) (g : Ghost) (inv : Invariant first w g
       (share_less c.till (g.made t) (suc i) (length c.till) (let z = c.covers in omega (arith, z, le)) c.front) in
       record {
         members = h.members;
+        term = h.term;
+        till = h.till;
+        front = h.front;
+        members_are = h.members_are;
         near = subst (λ x. AreAdjacent (configuration_after first x) h.members) (share_take (g.made l.entry.term) (g.made t) (suc i) agree) h.near;
         by = (h.by.0, h.by.1, λ v chosen. share_trans (w.member v).log (g.made l.entry.term) (g.made t) (suc i) (h.by.2 v chosen) agree);
       })

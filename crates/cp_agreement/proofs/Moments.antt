@@ -3,11 +3,13 @@ use Rattle.std.proofs.Common.{◌≡◌, ◌≢◌, ℕ, suc, ◌<◌, ◌≤◌
 use Rattle.std.proofs.lemmas.Bool.{cases_lt}
 use Rattle.std.proofs.lemmas.List.{append_assoc, append-nil}
 use Rattle.cp_rules.specs.Entries.{Entry}
-use Rattle.cp_rules.specs.Configurations.{AreAdjacent, HasQuorum, configuration_after}
+use Rattle.std.proofs.lemmas.Option.{slice_get_within}
+use Rattle.cp_rules.specs.Configurations.{IsQuorum, AreAdjacent, HasQuorum, configuration_after}
 use Rattle.cp_rules.specs.Logs.{HasTerm, IsPrefixOf}
 use Rattle.cp_rules.specs.Clusters.{Append, Appended, Message, Vote, Voted}
 use Rattle.cp_agreement.specs.WholeLogs.{Cluster, Facts, IsMoment, MeetsFacts, Member, Step, after_step, cluster_after, committed, opening}
-use Rattle.cp_agreement.proofs.Logs.{Share, share_sym, share_trans, share_less, reach_at, share_length, share_take}
+use Rattle.cp_agreement.proofs.Logs.{share_at, Share, share_sym, share_trans, share_less, reach_at, share_length, share_take}
+use Rattle.cp_agreement.proofs.Configurations.{QuietFrom, no_change}
 use Rattle.cp_agreement.proofs.Ghost.{Ghost, Committed, Sound, Invariant, ghost_after, ghost_of, put_same, at_each}
 use Rattle.cp_agreement.proofs.Complete.{complete, complete_won, sound_matches}
 use Rattle.cp_agreement.proofs.Held.{held}
@@ -225,3 +227,21 @@ commit_within first steps meets v at m =
 pub one_history : (first : List ℕ) (steps : List Step) → MeetsFacts first steps
     → (history : List Entry) × ((v : Cluster) → IsMoment steps v → (m : ℕ) → IsPrefixOf (committed (v.member m)) history × ((v.member m).commit ≤ length (v.member m).log))
 one_history first steps meets = let h = longest first steps meets in (committed (h.at.member h.of), λ v at m. (h.all v at m, commit_within first steps meets v at m))
+
+-- Where no leader's log has a members entry, each committed entry is held at the end by a quorum of the first members.
+pub held_by_first : (first : List ℕ) (steps : List Step) → MeetsFacts first steps → ((t : ℕ) → QuietFrom ((ghost_of steps).made t) 0) → (v : Cluster) → IsMoment steps v → (m i : ℕ) → i < (v.member m).commit
+    → HasQuorum first (λ n. take (suc i) ((cluster_after steps).member n).log ≡ take (suc i) (v.member m).log)
+held_by_first first steps meets quiet v at m i less =
+    let g = ghost_of steps in
+    let x = v.member m in
+    ⊎_elim
+    (λ (e : x.commit ≡ 0). absurd (omega (arith, e, less)))
+    (λ (c : Committed first (cluster_after steps) g x.log x.commit x.term).
+    let h = held first (cluster_after steps) g (invariant first steps meets) c.term c.place c.chosen i (let z = c.covers in omega (arith, z, less)) in
+    let mine : take (suc i) x.log ≡ take (suc i) (g.made c.term) = share_take x.log (g.made c.term) (suc i) (share_less x.log (g.made c.term) (suc i) x.commit less c.same) in
+    let fixed : h.members ≡ first = h.members_are ∙ no_change first h.till (λ k e le is. quiet h.term k e (omega arith) (share_at h.till (g.made h.term) (length h.till) k e h.front (slice_get_within h.till k e is) is)) in (
+      h.by.0,
+      subst (λ members. IsQuorum members h.by.0) fixed h.by.1,
+      λ n chosen. share_take ((cluster_after steps).member n).log (g.made c.term) (suc i) (h.by.2 n chosen) ∙ sym mine,
+    ))
+    (moment first steps meets v at m).commit
