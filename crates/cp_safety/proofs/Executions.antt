@@ -1,5 +1,5 @@
 -- An execution of members with snapshots stands for one on whole logs.
-use Rattle.std.proofs.Common.{◌≡◌, ℕ, zero, suc, ◌≤◌, ⊎_elim, List, [], ◌∷◌, ◌++◌, map, refl, ap, sym, ◌∙◌, arith, subst, Contains}
+use Rattle.std.proofs.Common.{slice_get, inl, inr, ◌≡◌, ℕ, zero, suc, ◌≤◌, ⊎_elim, List, [], ◌∷◌, ◌++◌, map, refl, ap, sym, ◌∙◌, arith, subst, Contains}
 use Rattle.std.proofs.lemmas.List.Elements.{Contains-append_cases}
 use Rattle.cp_rules.specs.Entries.{Entry}
 use Rattle.cp_rules.specs.Logs.{HasTerm}
@@ -7,13 +7,16 @@ use Rattle.cp_rules.specs.Clusters.{Append, Cluster, Member, Message, Snapshot, 
 use Rattle.cp_rules.specs.Facts.{KnowsTerm, MeetsFacts, before}
 use Rattle.cp_safety.specs.Standing.{StandsFor, StandsForLog, StandsThrough}
 use Rattle.cp_agreement.specs.WholeLogs as whole
-use Rattle.cp_agreement.proofs.Ghost.{Ghost, Invariant, Sound, ghost_of}
+use Rattle.cp_agreement.proofs.Ghost.{Ghost, Invariant, Sound, ghost_of, put_other, put_same}
 use Rattle.cp_agreement.proofs.Moments.{invariant}
-use Rattle.cp_agreement.proofs.GhostSteps.{leader_in}
+use Rattle.cp_agreement.proofs.GhostSteps.{leader_in, made_cases}
+use Rattle.cp_agreement.proofs.Configurations.{QuietFrom}
+use Rattle.cp_safety.specs.Laws.{KeepsMembers}
+use Rattle.std.proofs.lemmas.Bool.{cases_eq}
 use Rattle.cp_agreement.proofs.Grows.{leader_stays}
 use Rattle.cp_safety.proofs.Fits.{knows_has}
 use Rattle.cp_safety.proofs.Messages.{Heard, receive, stand, standing, to_whole}
-use Rattle.cp_safety.proofs.Steps.{next_fit, next_heard, next_stand, outcome, step_facts, whole_step}
+use Rattle.cp_safety.proofs.Steps.{next_fit, next_heard, next_stand, outcome, step_facts, whole_step, quiet_log}
 
 -- The execution on whole logs, beside the one with snapshots.
 record Beside (first : List ℕ) (steps : List Step) : Type 0 where
@@ -25,6 +28,7 @@ record Beside (first : List ℕ) (steps : List Step) : Type 0 where
   fit : (m : ℕ) → StandsForLog first ((cluster_after first steps).member m) (logs m)
   heard : Heard first (cluster_after first steps) sent
   through : StandsThrough first steps plain
+  quiet : KeepsMembers first steps → ((m : ℕ) → QuietFrom (logs m) 0) × ((t : ℕ) → QuietFrom ((ghost_of plain).made t) 0)
 
 stands_for : (first : List ℕ) (b : Member) (l : List Entry) → StandsForLog first b l → StandsFor first b (standing b l)
 stands_for first b l f = record { term = refl; commit = refl; leader = refl; log = f }
@@ -45,6 +49,7 @@ beside first [] meets = record {
     snapshot = λ f t i it ms has. absurd (omega (arith, has.1));
   };
   through = refl;
+  quiet = λ keeps. (λ m k e le is. absurd (cc), λ t k e le is. absurd (cc));
 }
 beside first (s ∷ before) meets = next (beside first before meets.1)
   where
@@ -67,10 +72,28 @@ beside first (s ∷ before) meets = next (beside first before meets.1)
           fit = fits;
           heard = next_heard first w b.logs b.sent (ghost_of b.plain) s inv b.heard b.fit r meets.0 o;
           through = (p, b.plain, refl, λ m. subst (λ x. StandsFor first ((after_step w s).member m) (x.member m)) (sym same) (stands_for first ((after_step w s).member m) (put b.logs s.actor o.log m) (fits m)), b.through);
+          quiet = λ keeps.
+              let old = b.quiet (λ v at. keeps v (inr at)) in
+              let own : QuietFrom s.after.log 0 = λ k e le is. keeps (cluster_after first (s ∷ before)) (inl refl) s.actor k e (ap (λ (x : Member). slice_get x.log k) (put_same w.member s.actor s.after s.actor refl) ∙ is) in
+              let log = quiet_log first w b.logs b.sent (ghost_of b.plain) s inv b.heard b.fit r meets.0 o old.0 old.1 own in (
+                λ m. ⊎_elim
+                    (λ (e : m ≡ s.actor). subst (λ l. QuietFrom l 0) (sym (put_same b.logs s.actor o.log m e)) log)
+                    (λ ne. subst (λ l. QuietFrom l 0) (sym (put_other b.logs s.actor o.log m ne)) (old.0 m))
+                    (cases_eq m s.actor),
+                λ t. ⊎_elim
+                    (λ e. subst (λ l. QuietFrom l 0) (sym e) (old.1 t))
+                    (λ e. subst (λ l. QuietFrom l 0) (sym e) log)
+                    (made_cases (whole.cluster_after b.plain) (ghost_of b.plain) p t),
+              );
         }
 
 pub whole_logs : (first : List ℕ) (steps : List Step) → MeetsFacts first steps → (plain : List whole.Step) × whole.MeetsFacts first plain × StandsThrough first steps plain
 whole_logs first steps meets = let b = beside first steps meets in (b.plain, b.meets, b.through)
+
+-- Where no members entry stands in any log, none stands in a leader's whole log.
+pub quiet_whole_logs : (first : List ℕ) (steps : List Step) → MeetsFacts first steps → KeepsMembers first steps
+    → (plain : List whole.Step) × whole.MeetsFacts first plain × StandsThrough first steps plain × ((t : ℕ) → QuietFrom ((ghost_of plain).made t) 0)
+quiet_whole_logs first steps meets keeps = let b = beside first steps meets in (b.plain, b.meets, b.through, (b.quiet keeps).1)
 
 -- What an execution with snapshots knows of itself.
 pub record Known (w : Cluster) : Type 0 where

@@ -10,12 +10,14 @@ use Rattle.cp_rules.specs.Clusters.{Member, Cluster, Step, IsMoment, cluster_aft
 use Rattle.cp_rules.specs.Facts.{KnowsTerm, MeetsFacts}
 use Rattle.cp_agreement.specs.WholeLogs as whole
 use Rattle.cp_agreement.proofs.Logs.{get-take, has_place}
-use Rattle.cp_agreement.proofs.Moments.{one_leader as whole_one_leader, equal_prefixes as whole_equal_prefixes, later_leaders as whole_later_leaders, one_history as whole_one_history, held_at_end as whole_held_at_end}
+use Rattle.cp_agreement.proofs.Moments.{one_leader as whole_one_leader, equal_prefixes as whole_equal_prefixes, later_leaders as whole_later_leaders, one_history as whole_one_history, held_at_end as whole_held_at_end, held_by_first as whole_held_by_first}
+use Rattle.cp_agreement.proofs.Configurations.{QuietFrom}
+use Rattle.cp_agreement.proofs.Ghost.{ghost_of}
 use Rattle.cp_safety.specs.Standing.{StandsForLog, StandsFor, StandsThrough}
-use Rattle.cp_safety.specs.Laws.{HasEntry, AgreeUpTo, CommitsFrontOf, IsHistory, IsHeldBy}
+use Rattle.cp_safety.specs.Laws.{HasEntry, AgreeUpTo, CommitsFrontOf, IsHistory, IsHeldBy, KeepsMembers}
 use Rattle.cp_safety.proofs.Lists.{drop-take_add, has_term_same}
 use Rattle.cp_safety.proofs.Fits.{at_log, knows_has, whole_length}
-use Rattle.cp_safety.proofs.Executions.{whole_logs}
+use Rattle.cp_safety.proofs.Executions.{whole_logs, quiet_whole_logs}
 
 opening_stands : (first : List ℕ) (m : ℕ) → StandsFor first ((opening first).member m) (whole.opening.member m)
 opening_stands first m = record { term = refl; commit = refl; leader = refl; log = record { fits = omega arith; log = refl; base_term = refl; members = refl; above = omega arith } }
@@ -162,6 +164,21 @@ module _ (first : List ℕ) (steps : List Step) (plain : List whole.Step) (facts
         (quorum.0, quorum.1, λ n chosen. holds place (omega (arith, low, f.1)) ((cluster_after first steps).member n) ((whole.cluster_after plain).member n).log (stands_now first steps plain through n).log (quorum.2 n chosen ∙ same)),
       )
 
+module _ (first : List ℕ) (steps : List Step) (plain : List whole.Step) (facts : whole.MeetsFacts first plain) (through : StandsThrough first steps plain) (quiet : (t : ℕ) → QuietFrom ((ghost_of plain).made t) 0) where
+  -- While members are fixed, each committed place of it is held at the end by a quorum of the first members.
+  held_by_first : (v : Cluster) → IsMoment first steps v → (m place : ℕ) → place < (v.member m).commit
+      → HasQuorum first (λ n. IsHeldBy (history first steps plain facts through) place ((cluster_after first steps).member n))
+  held_by_first v at m place less =
+      let x = at_once first steps plain through v at in
+      let f = front first steps plain facts through x.0 x.1 m in
+      let low : place < (x.0.member m).commit = omega (arith, less, (x.2 m).commit) in
+      let quorum = whole_held_by_first first plain facts quiet x.0 x.1 m place low in
+      let same = same_front (x.0.member m).log (history first steps plain facts through) (x.0.member m).commit (suc place) f.0 low in (
+        quorum.0,
+        quorum.1,
+        λ n chosen. holds first steps plain facts through place (omega (arith, low, f.1)) ((cluster_after first steps).member n) ((whole.cluster_after plain).member n).log (stands_now first steps plain through n).log (quorum.2 n chosen ∙ same),
+      )
+
 pub committed_prefixes : (first : List ℕ) (steps : List Step) → MeetsFacts first steps → (history : List Entry) × IsHistory first steps history
 committed_prefixes first steps meets = let (plain, facts, through) = whole_logs first steps meets in (history first steps plain facts through, is_history first steps plain facts through)
 
@@ -172,3 +189,9 @@ pub held_at_end : (first : List ℕ) (steps : List Step) → MeetsFacts first st
 held_at_end first steps meets =
     let (plain, facts, through) = whole_logs first steps meets in
     (history first steps plain facts through, is_history first steps plain facts through, held first steps plain facts through)
+
+pub held_by_first_members : (first : List ℕ) (steps : List Step) → MeetsFacts first steps → KeepsMembers first steps → (history : List Entry) × IsHistory first steps history
+    × ((v : Cluster) → IsMoment first steps v → (m place : ℕ) → place < (v.member m).commit → HasQuorum first (λ n. IsHeldBy history place ((cluster_after first steps).member n)))
+held_by_first_members first steps meets keeps =
+    let (plain, facts, through, quiet) = quiet_whole_logs first steps meets keeps in
+    (history first steps plain facts through, is_history first steps plain facts through, held_by_first first steps plain facts through quiet)

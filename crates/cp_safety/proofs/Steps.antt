@@ -12,6 +12,7 @@ use Rattle.cp_rules.specs.Facts.{Acknowledges, ChangesAreSingle, EntriesCreated,
 use Rattle.cp_safety.specs.Standing.{StandsForLog}
 use Rattle.cp_agreement.specs.WholeLogs as whole
 use Rattle.cp_agreement.proofs.Logs.{Share, get-drop, get-take, has_place, reach, reach_at, share_at, share_length, share_less, share_refl, share_sym, share_take, share_trans}
+use Rattle.cp_agreement.proofs.Configurations.{QuietFrom}
 use Rattle.cp_agreement.proofs.Ghost.{Committed, Ghost, Invariant, put_other, put_same}
 use Rattle.cp_agreement.proofs.Complete.{complete, sound_matches}
 use Rattle.cp_safety.proofs.Lists.{configuration_after-append, contains_map, drop-append_left, drop-drop_add, drop-take_add, drop_all, has_term_shared, has_term_within, take-add_drop}
@@ -284,6 +285,16 @@ module _ (first : List ℕ) (w : Cluster) (logs : ℕ → List Entry) (sent : Li
   -- All cases.
   pub outcome : Outcome
   outcome = ⊎_elim keeps (⊎_elim creates (⊎_elim follows_above (⊎_elim follows_below (⊎_elim takes_snapshot installs)))) facts.log
+
+  -- Where no log had a members entry and the member's log has none, its whole log has none.
+  pub quiet_log : (o : Outcome) → ((m : ℕ) → QuietFrom (logs m) 0) → ((t : ℕ) → QuietFrom (g.made t) 0) → QuietFrom s.after.log 0 → QuietFrom o.log 0
+  quiet_log o logs_quiet made_quiet after_quiet k e le is = ⊎_elim
+      (λ (low : k < s.after.base). ⊎_elim
+      (λ x. logs_quiet s.actor k e le (share_at o.log whole_log s.after.base k e x.1 low is))
+      (λ x. made_quiet s.after.term k e le (share_at o.log (g.made s.after.term) s.after.base k e x.1 low is))
+      o.below)
+      (λ (high : s.after.base ≤ k). after_quiet (k - s.after.base) e (omega arith) (at_log first s.after o.log o.fits (k - s.after.base) ∙ ap (slice_get o.log) (omega (arith, high)) ∙ is))
+      (cases_lt k s.after.base)
 
   -- Up to the base the log is the leader's, where an Append of it came.
   low_made : (o : Outcome) → GotAppend w s → Share s.after.base o.log (g.made s.after.term)

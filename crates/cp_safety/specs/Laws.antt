@@ -1,6 +1,6 @@
 -- The laws of agreement. They speak of any two states v and w that an execution had, in either order, and of any two members in them.
-use Rattle.std.specs.Prelude.{◌≡◌, ◌∷◌, ◌+◌, ◌-◌, ◌<◌, ◌≤◌, ◌⊎◌, true, ℕ, suc, Bool, List, length, take, drop, Some, slice_get}
-use Rattle.cp_rules.specs.Entries.{Entry}
+use Rattle.std.specs.Prelude.{◌≡◌, ◌∷◌, ◌+◌, ◌-◌, ◌<◌, ◌≤◌, ◌⊎◌, true, ℕ, suc, Bool, List, length, take, drop, Some, None, slice_get}
+use Rattle.cp_rules.specs.Entries.{Entry, members_in}
 use Rattle.cp_rules.specs.Configurations.{configuration_at, HasQuorum, IsQuorum, AreAdjacent}
 use Rattle.cp_rules.specs.Logs.{HasTerm}
 use Rattle.cp_rules.specs.Clusters.{Member, Cluster, Step, IsMoment, cluster_after}
@@ -61,6 +61,15 @@ HeldAtEnd = (first : List ℕ) (steps : List Step) → MeetsFacts first steps �
     × ((v : Cluster) → IsMoment first steps v → (m place : ℕ) → place < (v.member m).commit
     → (members : List ℕ) × AreAdjacent (configuration_at first history (suc place)) members
     × HasQuorum members (λ n. IsHeldBy history place ((cluster_after first steps).member n)))
+
+-- No members entry stands in any log.
+abbrev pub KeepsMembers : List ℕ → List Step → Type 0
+KeepsMembers first steps = (v : Cluster) → IsMoment first steps v → (m k : ℕ) (e : Entry) → slice_get (v.member m).log k ≡ Some e → members_in e.body ≡ None
+
+-- While members are fixed, each committed entry of the history is held at the end by a quorum of the first members.
+abbrev pub HeldByFirstMembers : Type 0
+HeldByFirstMembers = (first : List ℕ) (steps : List Step) → MeetsFacts first steps → KeepsMembers first steps → (history : List Entry) × IsHistory first steps history
+    × ((v : Cluster) → IsMoment first steps v → (m place : ℕ) → place < (v.member m).commit → HasQuorum first (λ n. IsHeldBy history place ((cluster_after first steps).member n)))
 
 -- An execution of members with snapshots stands at each moment for one on whole logs that meets the facts.
 abbrev pub WholeLogs : Type 0

@@ -6,7 +6,7 @@ ghost use Rattle.std.specs.Prelude.{◌≡◌, true};
 ghost use Rattle.cp_rules.specs.Clusters.{cluster_after};
 ghost use Rattle.cp_rules.specs.Facts.{MeetsFacts};
 ghost use Rattle.cp_safety.specs.Examples.{three, alone, elects_and_commits, votes_twice, stands_late, MeetsAllButVotes, MeetsWithAnyLog};
-ghost use Rattle.cp_safety.specs.Laws.{OneOffice, EqualPrefixes, LaterOffices, CommittedPrefixes, WholeLogs, NeighboursMeet, HeldAtEnd, TrackedExecutions, ChunkedExecutions, ChunksJoin};
+ghost use Rattle.cp_safety.specs.Laws.{OneOffice, EqualPrefixes, LaterOffices, CommittedPrefixes, WholeLogs, NeighboursMeet, HeldAtEnd, HeldByFirstMembers, TrackedExecutions, ChunkedExecutions, ChunksJoin};
 
 /// No two members lead in one term.
 pub fn one_office()
@@ -41,6 +41,11 @@ pub fn neighbours_meet()
 /// Each committed index is held at the end by a quorum of the configuration in force for it, or of an adjacent one.
 pub fn held_at_end()
     ensures { HeldAtEnd }
+{}
+
+/// While members are fixed, each committed index is held at the end by a quorum of the first members.
+pub fn held_by_first_members()
+    ensures { HeldByFirstMembers }
 {}
 
 /// Members that count votes and matched indexes as the rules of one member say meet the facts.
