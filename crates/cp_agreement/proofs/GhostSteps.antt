@@ -1,18 +1,8 @@
 -- What a step changes of the ghost: the log of the term that it leads, and that log at the election where it wins it.
-use Rattle.cp_rules.specs.Entries.{Entry, members_in}
-use Rattle.cp_rules.specs.Configurations.{AreOneApart, HasQuorum, configuration_after}
-use Rattle.cp_rules.specs.Logs.{EndsAt, HasEntries, HasTerm, IsUpToDate}
-use Rattle.cp_rules.specs.Clusters.{Append, Appended, Vote, Voted, put}
-use Rattle.cp_agreement.specs.WholeLogs.{Acknowledges, Cluster, EntriesCreated, Facts, FollowerCommits, FollowsLeader, GotAppend, LeaderCommits, Step, WinsElection, after_step}
-use Rattle.std.proofs.Common.{◌≡◌, ◌≢◌, ℕ, zero, suc, ◌+◌, ◌*◌, ◌<◌, ◌≤◌, ◌⊎◌, inl, inr, ⊎_elim, true, false, List, [], ◌∷◌, length, refl, ap, sym, ◌∙◌, arith, subst, Some, slice_get, Contains, le_refl, le_trans, le_of_eq, true≢false, lt_of_lt_of_le, lt-suc_self, count_by, le_of_lt}
-use Rattle.std.proofs.lemmas.Bool.{cases_lt, cases_eq, cases_Bool, ne_eqb}
-use Rattle.std.proofs.lemmas.Option.{slice_get_within, same_Some}
-use Rattle.std.proofs.lemmas.List.Elements.{Contains-append_left, Contains-append_cases}
-use Rattle.cp_agreement.proofs.Logs.{Share, Differ, share_at, share_sym, share_trans, share_less, has_place, get-append_left, push_cases, share_refl, share_length, longer, has_term_grows, ends_somewhere, up_to_date_trans, differ_shared, own_unchanged, kept_or_differ, replaced_front, reach}
-use Rattle.cp_agreement.proofs.Quorums.{quorum_members_meet}
-use Rattle.cp_agreement.proofs.Ghost.{Ghost, Backs, Clash, EndsPast, Chosen, Committed, Sound, Invariant, Prepared, Election, ghost_after, leader_after, made_after, won_after, put_same, put_other, at_each}
-use Rattle.cp_agreement.proofs.Configurations.{QuietFrom, same_configuration}
-use Rattle.cp_agreement.proofs.Complete.{complete, rivals_adjacent, sound_matches, sound_front}
+use Rattle.cp_agreement.specs.WholeLogs.{Cluster, Step}
+use Rattle.std.proofs.Common.{◌≡◌, ◌≢◌, ℕ, ◌⊎◌, inl, inr, ⊎_elim, true, false, refl, ◌∙◌}
+use Rattle.std.proofs.lemmas.Bool.{cases_eq, cases_Bool, ne_eqb}
+use Rattle.cp_agreement.proofs.Ghost.{Ghost, ghost_after, leader_after, made_after, won_after, put_same, put_other}
 
 module _ (w : Cluster) (g : Ghost) (s : Step) where
   -- how the ghost changes

@@ -335,7 +335,6 @@ chunked_executions reader first steps meets =
     let b = beside reader first steps meets in
     (untracked_steps b.tracked, tracked_meets first b.tracked b.meets, without_counts first steps b.tracked b.through)
 
-
 -- What is joined is a snapshot that the sender had.
 pub chunks_join : (reader : SnapshotReader) (first : List ℕ) (s : ChunkedStep) (steps : List ChunkedStep) → MeetsChunkedFacts reader first (s ∷ steps)
     → (t i : ℕ) (joined : List ℕ) (j : Joins (chunked_after first steps) s t i true joined) → HadSnapshot first steps j.sender i joined
