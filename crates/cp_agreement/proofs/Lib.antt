@@ -1,0 +1,10 @@
+pub mod Quorums
+pub mod Logs
+pub mod Configurations
+pub mod Ghost
+pub mod Complete
+pub mod Held
+pub mod GhostSteps
+pub mod Grows
+pub mod Crash
+pub mod Moments

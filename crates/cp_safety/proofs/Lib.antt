@@ -1,0 +1,9 @@
+pub mod Lists
+pub mod Fits
+pub mod Messages
+pub mod Steps
+pub mod Executions
+pub mod Laws
+pub mod Tracking
+pub mod Chunks
+pub mod Examples

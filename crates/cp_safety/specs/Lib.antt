@@ -1,0 +1,5 @@
+pub mod Standing
+pub mod Tracking
+pub mod Chunks
+pub mod Laws
+pub mod Examples
