@@ -1,0 +1,6 @@
+pub mod Causes
+pub mod Frames
+pub mod Records
+pub mod Moments
+pub mod Errors
+pub mod Journals

@@ -1,0 +1,10 @@
+//! A journal of records that a crash at any moment leaves with the records from before, or with the one being written.
+#![tactic(auto)]
+
+mod append;
+mod error;
+mod journal;
+mod steps;
+
+pub use error::JournalError;
+pub use journal::Journal;
