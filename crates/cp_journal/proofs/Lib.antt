@@ -1,6 +1,6 @@
 pub mod Moments
 pub mod Untouched
 pub mod Lists
-pub mod Reading
+pub mod Walks
 pub mod Arrays
 pub mod Resting

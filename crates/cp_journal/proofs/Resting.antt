@@ -6,7 +6,7 @@ use Rattle.std.proofs.lemmas.Bool.Decides.{nat_tests}
 use Rattle.cp_disk.specs.Images.{Only}
 use Rattle.cp_journal.specs.Records.{IsBody, body_at, closed_gate, gate_from, is_whole, next_gate, size_at}
 use Rattle.cp_journal.specs.Frames.{AreFrames, IsAtRest, IsClosed, IsFrame, Rests}
-use Rattle.cp_journal.proofs.Reading.{frames_le, open_gate, whole}
+use Rattle.cp_journal.proofs.Walks.{frames_le, open_gate, whole}
 
 -- frames up to a closed gate
 record Found (gate end : ℕ) (file : List ℕ) : Type 0 where

@@ -4,3 +4,4 @@ pub mod Records
 pub mod Moments
 pub mod Errors
 pub mod Journals
+pub mod Found

@@ -1,7 +1,7 @@
 //! The journal.
 ghost use Rattle.std.specs.Prelude.{false, ◌≡◌, ◌≤◌, ◌<◌, ◌+◌, ◌-◌, ◌^◌, ◌↔◌, List, ℕ, length, OnOk, IsErrOf};
 ghost use Rattle.cp_words.specs.Faults.{Rose};
-ghost use Rattle.cp_disk.specs.Images.{Only};
+ghost use Rattle.cp_disk.specs.Images.{Elapses, NoMore, Only};
 ghost use Rattle.cp_journal.specs.Errors.{CountsDisk};
 ghost use Rattle.cp_journal.specs.declared.error.JournalError.TheVariants as error;
 ghost use Rattle.cp_journal.specs.Frames.{IsAtRest};
@@ -125,6 +125,9 @@ impl<D: CrashDisk> Journal<D> {
     /// Hands the number to the disk.
     pub fn stop_after(&mut self, calls: u64)
         requires { D.Disk.orders (disk_of self.old) < 2 ^ 62 }
+        ensures seen { D.Disk.Told → D.Disk.seen (disk_of self.new) ≡ D.Disk.seen (disk_of self.old) }
+        ensures crash { D.Disk.Told → NoMore (D.Disk.may_leave (disk_of self.old)) (D.Disk.may_leave (disk_of self.new)) }
+        ensures time { D.Disk.Told → Elapses (D.Disk.moment (disk_of self.old)) (D.Disk.moment (disk_of self.new)) (D.Disk.left_since (disk_of self.old)) (D.Disk.left_since (disk_of self.new)) (D.Disk.may_leave (disk_of self.new)) }
         ensures orders { D.Disk.orders (disk_of self.new) ≡ D.Disk.orders (disk_of self.old) + 1 }
         ensures counts { (D.Disk.faults (disk_of self.new) ≡ D.Disk.faults (disk_of self.old)) × (D.Disk.starved (disk_of self.new) ≡ D.Disk.starved (disk_of self.old)) }
         ensures armed { D.is_struck (disk_of self.new) ≡ false }

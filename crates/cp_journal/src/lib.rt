@@ -4,6 +4,7 @@
 mod append;
 mod error;
 mod journal;
+mod reading;
 mod steps;
 
 pub use error::JournalError;

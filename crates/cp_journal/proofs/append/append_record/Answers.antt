@@ -6,7 +6,7 @@ use Rattle.cp_journal.specs.Frames.{IsAtRest, IsClosed}
 use Rattle.cp_journal.specs.Records.{IsBeforeOrAfter, records_of, record_bytes}
 use Rattle.cp_journal.proofs.Moments.{joined, weaker}
 use Rattle.cp_journal.proofs.Resting.{at_rest, resting}
-use Rattle.cp_journal.proofs.Reading.{stage_closed, stage_leaves, stage_records, gate_leaves, gate_opened, opened_records, torn_behind, written_torn}
+use Rattle.cp_journal.proofs.Walks.{stage_closed, stage_leaves, stage_records, gate_leaves, gate_opened, opened_records, torn_behind, written_torn}
 use Rattle.cp_journal.proofs.append.append_record.Goals as goal
 
 pub write_synced-requires : goal.write_synced-requires

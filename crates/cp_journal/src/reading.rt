@@ -1,0 +1,84 @@
+//! Reading the records of a file.
+ghost use Rattle.std.specs.Prelude.{true, false, nat_lt, ◌==◌, ◌&&◌, ◌^◌, IfSome, ◌≡◌, ◌≤◌, ◌<◌, ◌+◌, List, ℕ, length, take, drop, slice_index, IfOk, OnOk, IsErrOf, Ok, Err, Option, Some, None, if◌then◌else◌};
+ghost use Rattle.std.specs.Int.{w32, from_be_bytes};
+ghost use Rattle.cp_disk.specs.Images.{Only};
+ghost use Rattle.cp_journal.specs.Causes.{CountsRun};
+ghost use Rattle.cp_journal.specs.Errors.{CountsDisk};
+ghost use Rattle.cp_journal.specs.Moments.{Stays};
+ghost use Rattle.cp_journal.specs.Records.{is_whole, size_at, records_of};
+
+use crate::steps::read_at;
+use crate::JournalError;
+use cp_disk::{Disk, Fault};
+use std::alloc::Global;
+
+/// The most bytes of a body.
+const BODY_LIMIT: u64 = 1 << 26;
+
+/// What stands at a gate: nothing where it is closed, no whole record and gate, or a body.
+#[derive(Debug, Drop)]
+pub(crate) enum Found {
+    Closed,
+    Bad,
+    Body(Vec<u8>),
+}
+
+/// Whether a gate is closed.
+fn is_closed<D: Disk>(disk: &mut D, gate: u64) -> Result<bool, Fault>
+    requires within { D.Told → gate < length (D.seen disk.old) }
+    requires durable { D.Told → Only (D.seen disk.old) (D.may_leave disk.old) }
+    ensures closed { D.Told → IfOk result (λ closed. closed ≡ (slice_index (D.seen disk.old) gate == 0)) }
+    ensures stays { D.Told → Stays D.seen D.may_leave D.moment D.left_since disk.old disk.new }
+    ensures cause { CountsRun (D.faults disk.old) (D.faults disk.new) (D.starved disk.old) (D.starved disk.new) result }
+    ensures orders { D.orders disk.new ≡ D.orders disk.old }
+{
+    let mut bytes = [0u8; 1];
+    read_at(disk, gate, &mut bytes)?;
+    Ok(bytes[0] == 0)
+}
+
+/// The length that stands behind a gate.
+fn read_size<D: Disk>(disk: &mut D, gate: u64) -> Result<u64, Fault>
+    requires within { D.Told → gate + 5 ≤ length (D.seen disk.old) }
+    requires durable { D.Told → Only (D.seen disk.old) (D.may_leave disk.old) }
+    requires fits { gate + 5 < 2 ^ 64 }
+    ensures size { D.Told → IfOk result (λ size. size ≡ size_at gate (D.seen disk.old)) }
+    ensures small { IfOk result (λ size. size < 2 ^ 32) }
+    ensures stays { D.Told → Stays D.seen D.may_leave D.moment D.left_since disk.old disk.new }
+    ensures cause { CountsRun (D.faults disk.old) (D.faults disk.new) (D.starved disk.old) (D.starved disk.new) result }
+    ensures orders { D.orders disk.new ≡ D.orders disk.old }
+{
+    let mut bytes = [0u8; 4];
+    read_at(disk, gate + 1, &mut bytes)?;
+    Ok(u64::from(u32::from_be_bytes(bytes)))
+}
+
+/// Whether a record of this length and a gate stand behind a gate.
+fn is_framed(gate: u64, size: u64, len: u64) -> bool
+    requires { (gate + 5 < len) × (size < 2 ^ 32) }
+    ensures { result ≡ (nat_lt 0 size && nat_lt size 67108865 && nat_lt (gate + 5 + size) len) }
+{
+    0 < size && size <= BODY_LIMIT && size < len - gate - 5
+}
+
+/// The length of the whole record behind an open gate, where one stands there with a gate.
+fn whole_size<D: Disk>(disk: &mut D, gate: u64, len: u64) -> Result<Option<u64>, Fault>
+    requires within { gate < len }
+    requires told { D.Told → len ≡ length (D.seen disk.old) }
+    requires durable { D.Told → Only (D.seen disk.old) (D.may_leave disk.old) }
+    ensures size { D.Told → IfOk result (λ size. size ≡ (if is_whole gate (D.seen disk.old) then Some (size_at gate (D.seen disk.old)) else None)) }
+    ensures fits { IfOk result (λ size. IfSome size (λ n. gate + 5 + n < len)) }
+    ensures stays { D.Told → Stays D.seen D.may_leave D.moment D.left_since disk.old disk.new }
+    ensures cause { CountsRun (D.faults disk.old) (D.faults disk.new) (D.starved disk.old) (D.starved disk.new) result }
+    ensures orders { D.orders disk.new ≡ D.orders disk.old }
+{
+    if len - gate <= 5 {
+        return Ok(None);
+    }
+    let size = read_size(disk, gate)?;
+    if is_framed(gate, size, len) {
+        Ok(Some(size))
+    } else {
+        Ok(None)
+    }
+}
