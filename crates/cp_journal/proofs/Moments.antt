@@ -46,3 +46,21 @@ module _ {D : Type 0} (moment : D → ℕ) (left_since : D → ℕ → List ℕ 
       goes_on old mid new (step bytes) (may_leave new)
         (goes_on old old mid (step bytes) (may_leave mid) (started old (step bytes) (λ image left. here image (now image left))) first changed)
         second (λ image left. changed image (no_more image left))
+
+  -- no call yet
+  pub stays_first : (seen : D → List ℕ) (may_leave : D → List ℕ → Type 0) (old : D) → ((image : List ℕ) → left_since old (moment old) image → may_leave old image) → Only (seen old) (may_leave old)
+      → Stays seen may_leave moment left_since old old
+  stays_first seen may_leave old now only = record {
+    same = refl;
+    durable = only;
+    leaves = started old (λ image. image ≡ seen old) (λ image left. only image (now image left));
+  }
+
+  -- one run of reads and then another
+  pub stays_on : (seen : D → List ℕ) (may_leave : D → List ℕ → Type 0) (old mid new : D) → Stays seen may_leave moment left_since old mid → Stays seen may_leave moment left_since mid new
+      → Stays seen may_leave moment left_since old new
+  stays_on seen may_leave old mid new first second = record {
+    same = second.same ∙ first.same;
+    durable = λ image left. second.durable image left ∙ first.same;
+    leaves = joined old mid new (λ image. image ≡ seen old) first.leaves (weaker mid new (λ image. image ≡ seen mid) (λ image. image ≡ seen old) second.leaves (λ image (is : image ≡ seen mid). is ∙ first.same));
+  }

@@ -1,9 +1,10 @@
 //! Reading the records of a file.
-ghost use Rattle.std.specs.Prelude.{true, false, nat_lt, ◌==◌, ◌&&◌, ◌^◌, IfSome, ◌≡◌, ◌≤◌, ◌<◌, ◌+◌, List, ℕ, length, take, drop, slice_index, IfOk, OnOk, IsErrOf, Ok, Err, Option, Some, None, if◌then◌else◌};
+ghost use Rattle.std.specs.Prelude.{true, false, nat_lt, ◌==◌, ◌&&◌, ◌^◌, IfSome, ◌≡◌, ◌≤◌, ◌<◌, ◌+◌, List, ℕ, length, take, drop, slice_index, IfOk, IfErr, Ok, Err, Option, Some, None, if◌then◌else◌};
 ghost use Rattle.std.specs.Int.{w32, from_be_bytes};
 ghost use Rattle.cp_disk.specs.Images.{Only};
 ghost use Rattle.cp_journal.specs.Causes.{CountsRun};
-ghost use Rattle.cp_journal.specs.Errors.{CountsDisk};
+ghost use Rattle.cp_journal.specs.Errors.{ReadCause};
+ghost use Rattle.cp_journal.specs.Found.{IsFound, FitsIn};
 ghost use Rattle.cp_journal.specs.Moments.{Stays};
 ghost use Rattle.cp_journal.specs.Records.{is_whole, size_at, records_of};
 
@@ -80,5 +81,86 @@ fn whole_size<D: Disk>(disk: &mut D, gate: u64, len: u64) -> Result<Option<u64>,
         Ok(Some(size))
     } else {
         Ok(None)
+    }
+}
+
+/// So many bytes from a place on.
+fn read_body<D: Disk>(
+    alloc: Global,
+    disk: &mut D,
+    at: u64,
+    size: usize,
+) -> Result<Vec<u8>, JournalError>
+    requires within { D.Told → at + size ≤ length (D.seen disk.old) }
+    requires durable { D.Told → Only (D.seen disk.old) (D.may_leave disk.old) }
+    ensures body { D.Told → IfOk result (λ body. body.items ≡ take size (drop at (D.seen disk.old))) }
+    ensures len { IfOk result (λ body. length body.items ≡ size) }
+    ensures stays { D.Told → Stays D.seen D.may_leave D.moment D.left_since disk.old disk.new }
+    ensures cause { IfErr result (ReadCause (D.faults disk.old) (D.faults disk.new)) }
+    ensures counts { (D.faults disk.old ≤ D.faults disk.new) × (D.starved disk.old ≤ D.starved disk.new) }
+    ensures orders { D.orders disk.new ≡ D.orders disk.old }
+{
+    let mut bytes = match vec![in alloc; 0u8; size] {
+        Ok(bytes) => bytes,
+        Err(_) => return Err(JournalError::NoMemory),
+    };
+    match read_at(disk, at, &mut bytes) {
+        Ok(()) => Ok(bytes),
+        Err(Fault::Failed) => Err(JournalError::DiskFault),
+        Err(Fault::NoMemory) => Err(JournalError::NoMemory),
+    }
+}
+
+/// What stands at an open gate.
+fn read_open<D: Disk>(
+    alloc: Global,
+    disk: &mut D,
+    gate: u64,
+    len: u64,
+) -> Result<Found, JournalError>
+    requires within { gate < len }
+    requires told { D.Told → len ≡ length (D.seen disk.old) }
+    requires durable { D.Told → Only (D.seen disk.old) (D.may_leave disk.old) }
+    requires open { D.Told → 0 < slice_index (D.seen disk.old) gate }
+    ensures found { D.Told → IfOk result (IsFound gate (D.seen disk.old)) }
+    ensures fits { IfOk result (FitsIn gate len) }
+    ensures stays { D.Told → Stays D.seen D.may_leave D.moment D.left_since disk.old disk.new }
+    ensures cause { IfErr result (ReadCause (D.faults disk.old) (D.faults disk.new)) }
+    ensures counts { (D.faults disk.old ≤ D.faults disk.new) × (D.starved disk.old ≤ D.starved disk.new) }
+    ensures orders { D.orders disk.new ≡ D.orders disk.old }
+{
+    match whole_size(disk, gate, len) {
+        Ok(Some(size)) => match read_body(alloc, disk, gate + 5, size as usize) {
+            Ok(body) => Ok(Found::Body(body)),
+            Err(error) => Err(error),
+        },
+        Ok(None) => Ok(Found::Bad),
+        Err(Fault::Failed) => Err(JournalError::DiskFault),
+        Err(Fault::NoMemory) => Err(JournalError::NoMemory),
+    }
+}
+
+/// What stands at a gate.
+fn read_frame<D: Disk>(
+    alloc: Global,
+    disk: &mut D,
+    gate: u64,
+    len: u64,
+) -> Result<Found, JournalError>
+    requires within { gate < len }
+    requires told { D.Told → len ≡ length (D.seen disk.old) }
+    requires durable { D.Told → Only (D.seen disk.old) (D.may_leave disk.old) }
+    ensures found { D.Told → IfOk result (IsFound gate (D.seen disk.old)) }
+    ensures fits { IfOk result (FitsIn gate len) }
+    ensures stays { D.Told → Stays D.seen D.may_leave D.moment D.left_since disk.old disk.new }
+    ensures cause { IfErr result (ReadCause (D.faults disk.old) (D.faults disk.new)) }
+    ensures counts { (D.faults disk.old ≤ D.faults disk.new) × (D.starved disk.old ≤ D.starved disk.new) }
+    ensures orders { D.orders disk.new ≡ D.orders disk.old }
+{
+    match is_closed(disk, gate) {
+        Ok(true) => Ok(Found::Closed),
+        Ok(false) => read_open(alloc, disk, gate, len),
+        Err(Fault::Failed) => Err(JournalError::DiskFault),
+        Err(Fault::NoMemory) => Err(JournalError::NoMemory),
     }
 }
