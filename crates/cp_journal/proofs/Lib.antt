@@ -4,3 +4,5 @@ pub mod Lists
 pub mod Walks
 pub mod Arrays
 pub mod Resting
+pub mod Causes
+pub mod Gathered

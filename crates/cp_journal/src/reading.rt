@@ -1,10 +1,11 @@
 //! Reading the records of a file.
-ghost use Rattle.std.specs.Prelude.{true, false, nat_lt, ◌==◌, ◌&&◌, ◌^◌, IfSome, ◌≡◌, ◌≤◌, ◌<◌, ◌+◌, List, ℕ, length, take, drop, slice_index, IfOk, IfErr, Ok, Err, Option, Some, None, if◌then◌else◌};
+ghost use Rattle.std.specs.Prelude.{true, false, nat_lt, ◌==◌, ◌&&◌, ◌^◌, IfSome, ◌≡◌, ◌≤◌, ◌<◌, ◌+◌, List, ℕ, length, take, drop, slice_index, ◌++◌, [], ◌∷◌, IfOk, IfErr, OnOk, Ok, Err, Option, Some, None, if◌then◌else◌};
 ghost use Rattle.std.specs.Int.{w32, from_be_bytes};
 ghost use Rattle.cp_disk.specs.Images.{Only};
 ghost use Rattle.cp_journal.specs.Causes.{CountsRun};
-ghost use Rattle.cp_journal.specs.Errors.{ReadCause};
-ghost use Rattle.cp_journal.specs.Found.{IsFound, FitsIn};
+ghost use Rattle.cp_journal.specs.Errors.{OpenCause, ReadCause};
+ghost use Rattle.cp_journal.specs.Found.{FitsIn, IsFound, lists};
+ghost use Rattle.cp_journal.specs.Frames.{IsClosed};
 ghost use Rattle.cp_journal.specs.Moments.{Stays};
 ghost use Rattle.cp_journal.specs.Records.{is_whole, size_at, records_of};
 
@@ -162,5 +163,51 @@ fn read_frame<D: Disk>(
         Ok(false) => read_open(alloc, disk, gate, len),
         Err(Fault::Failed) => Err(JournalError::DiskFault),
         Err(Fault::NoMemory) => Err(JournalError::NoMemory),
+    }
+}
+
+/// Puts a body behind others.
+fn push_body(bodies: &mut Vec<Vec<u8>>, body: Vec<u8>) -> Result<(), JournalError>
+    ensures ok { OnOk result (bodies.new.items ≡ bodies.old.items ++ body ∷ []) }
+    ensures err { IfErr result (ReadCause 0 0) }
+{
+    match bodies.push(body) {
+        Ok(()) => Ok(()),
+        Err(_) => Err(JournalError::NoMemory),
+    }
+}
+
+/// The bodies before the first closed gate, and the place of that gate.
+#[tactic(auto, using(crate::proofs::Causes::opened))]
+pub(crate) fn read_records<D: Disk>(
+    alloc: Global,
+    disk: &mut D,
+    len: u64,
+) -> Result<(Vec<Vec<u8>>, u64), JournalError>
+    requires long { 2 ≤ len }
+    requires told { D.Told → len ≡ length (D.seen disk.old) }
+    requires durable { D.Told → Only (D.seen disk.old) (D.may_leave disk.old) }
+    ensures records { D.Told → IfOk result (λ read. IsClosed (lists read.0.items) read.1 (D.seen disk.old)) }
+    ensures within { IfOk result (λ read. read.1 < len) }
+    ensures stays { D.Told → Stays D.seen D.may_leave D.moment D.left_since disk.old disk.new }
+    ensures cause { IfErr result (OpenCause (D.faults disk.old) (D.faults disk.new) D.Told (records_of (D.seen disk.old))) }
+    ensures counts { (D.faults disk.old ≤ D.faults disk.new) × (D.starved disk.old ≤ D.starved disk.new) }
+    ensures orders { D.orders disk.new ≡ D.orders disk.old }
+{
+    let mut bodies = Vec::new(alloc);
+    let mut gate = 0;
+    loop {
+        match read_frame(alloc, disk, gate, len) {
+            Ok(Found::Closed) => return Ok((bodies, gate)),
+            Ok(Found::Bad) => return Err(JournalError::BadFrame(gate)),
+            Ok(Found::Body(body)) => {
+                gate += 5 + body.len() as u64;
+                match push_body(&mut bodies, body) {
+                    Ok(()) => {}
+                    Err(error) => return Err(error),
+                }
+            }
+            Err(error) => return Err(error),
+        }
     }
 }
