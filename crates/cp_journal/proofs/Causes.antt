@@ -1,5 +1,5 @@
 -- Why a run of reads ended.
-use Rattle.std.proofs.Common.{◌≡◌, ◌≤◌, ℕ, List, arith}
+use Rattle.std.proofs.Common.{◌≡◌, ◌≤◌, ◌∙◌, sym, ℕ, List, arith}
 use Rattle.std.specs.Prelude.{Result}
 use Rattle.cp_journal.specs.declared.error.JournalError.{JournalError}
 use Rattle.cp_journal.specs.declared.error.JournalError.TheVariants as error
@@ -17,3 +17,16 @@ pushed before now told records error.DiskFault cause = absurd (omega arith)
 pushed before now told records error.Full cause = absurd cause
 pushed before now told records (error.BadFrame place) cause = absurd cause
 pushed before now told records error.NoMemory cause = tt
+
+pub still : (start before now : ℕ) (told : Type 0) (records : Result (List (List ℕ)) ℕ) (e : JournalError) → start ≤ before → before ≤ now → OpenCause before before told records e → OpenCause start now told records e
+still start before now told records error.DiskFault less later cause = omega arith
+still start before now told records error.Full less later cause = cause
+still start before now told records (error.BadFrame place) less later cause = cause
+still start before now told records error.NoMemory less later cause = tt
+
+-- a cause over the same records of a disk that stayed
+pub carried : (start before now : ℕ) (told : Type 0) (records same : Result (List (List ℕ)) ℕ) (e : JournalError) → start ≤ before → (told → same ≡ records) → OpenCause before now told same e → OpenCause start now told records e
+carried start before now told records same error.DiskFault less is cause = omega arith
+carried start before now told records same error.Full less is cause = cause
+carried start before now told records same (error.BadFrame place) less is cause = λ (t : told). sym (is t) ∙ cause t
+carried start before now told records same error.NoMemory less is cause = tt

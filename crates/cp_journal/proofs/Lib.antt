@@ -6,3 +6,4 @@ pub mod Arrays
 pub mod Resting
 pub mod Causes
 pub mod Gathered
+pub mod Openings

@@ -5,3 +5,4 @@ pub mod Moments
 pub mod Errors
 pub mod Journals
 pub mod Found
+pub mod Opening

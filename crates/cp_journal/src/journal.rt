@@ -1,14 +1,17 @@
 //! The journal.
-ghost use Rattle.std.specs.Prelude.{false, ◌≡◌, ◌≤◌, ◌<◌, ◌+◌, ◌-◌, ◌^◌, ◌↔◌, List, ℕ, length, OnOk, IsErrOf};
+ghost use Rattle.std.specs.Prelude.{false, ◌≡◌, ◌≤◌, ◌<◌, ◌+◌, ◌-◌, ◌^◌, ◌↔◌, List, ℕ, length, IfOk, IfErr, MatchResult, OnOk, IsErrOf};
 ghost use Rattle.cp_words.specs.Faults.{Rose};
 ghost use Rattle.cp_disk.specs.Images.{Elapses, NoMore, Only};
-ghost use Rattle.cp_journal.specs.Errors.{CountsDisk};
+ghost use Rattle.cp_journal.specs.Errors.{CountsDisk, OpenCause};
 ghost use Rattle.cp_journal.specs.declared.error.JournalError.TheVariants as error;
 ghost use Rattle.cp_journal.specs.Frames.{IsAtRest};
 ghost use Rattle.cp_journal.specs.Moments.{LeavesOnly};
+ghost use Rattle.cp_journal.specs.Found.{lists};
+ghost use Rattle.cp_journal.specs.Opening.{IsImageOrSame, IsOpened};
 ghost use Rattle.cp_journal.specs.Records.{IsBody, IsBeforeOrAfter, and_record, record_bytes, records_of};
 
 use crate::append::{append_record, long_record, small_record, SMALL};
+use crate::opening::recover;
 use crate::JournalError;
 use cp_base::NoMemory;
 use cp_disk::{CrashDisk, Disk, Fault};
@@ -29,6 +32,35 @@ pub struct Journal<D: Disk> {
 
 impl<D: Disk> Journal<D> {
     ghost use Rattle.cp_journal.specs.Journals.{disk_of, is_spent, end_of};
+
+    /// Opens a file, or gives the disk back. It gives the bodies of the records before the first closed gate, and cuts
+    /// what stands behind that gate.
+    pub fn open(alloc: Global, disk: D) -> Result<(Journal<D>, Vec<Vec<u8>>), (D, JournalError)>
+        ensures opened { IfOk result (λ opened. is_spent opened.0 ≡ false) }
+        ensures records { D.Told → IfOk result (λ opened. IsOpened (lists opened.1.items) (end_of opened.0) (D.seen disk) (D.seen (disk_of opened.0)) (D.may_leave (disk_of opened.0))) }
+
+        // A crash at any moment of the call leaves what it could leave before, or the same records.
+        ensures any_moment { D.Told → MatchResult result
+            (λ opened. LeavesOnly D.moment D.left_since disk (disk_of opened.0) (IsImageOrSame (D.may_leave disk) (D.seen disk)))
+            (λ refused. LeavesOnly D.moment D.left_since disk refused.0 (IsImageOrSame (D.may_leave disk) (D.seen disk))) }
+        ensures cause { IfErr result (λ refused. OpenCause (D.faults disk) (D.faults refused.0) D.Told (records_of (D.seen disk)) refused.1) }
+        ensures counts { MatchResult result
+            (λ opened. (D.faults disk ≤ D.faults (disk_of opened.0)) × ((D.starved disk ≤ D.starved (disk_of opened.0)) × (D.orders (disk_of opened.0) ≡ D.orders disk)))
+            (λ refused. (D.faults disk ≤ D.faults refused.0) × ((D.starved disk ≤ D.starved refused.0) × (D.orders refused.0 ≡ D.orders disk))) }
+    {
+        let mut disk = disk;
+        match recover(alloc, &mut disk) {
+            Ok((bodies, end)) => {
+                let journal = Journal {
+                    disk,
+                    end,
+                    spent: false,
+                };
+                Ok((journal, bodies))
+            }
+            Err(error) => Err((disk, error)),
+        }
+    }
 
     /// Appends a record and counts its bytes.
     fn put(&mut self, bytes: &[u8]) -> Result<(), JournalError>

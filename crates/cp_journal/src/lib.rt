@@ -4,6 +4,7 @@
 mod append;
 mod error;
 mod journal;
+mod opening;
 mod reading;
 mod steps;
 

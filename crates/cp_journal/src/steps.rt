@@ -1,7 +1,8 @@
 //! Runs of a few calls of a disk, with what a crash leaves during them.
-ghost use Rattle.std.specs.Prelude.{◌≡◌, ◌≤◌, ◌+◌, List, ℕ, length, take, drop, OnOk, IsErrOf};
+ghost use Rattle.std.specs.Prelude.{◌≡◌, ◌≤◌, ◌+◌, List, ℕ, length, take, drop, IfOk, OnOk, IsErrOf};
 ghost use Rattle.cp_disk.specs.Images.{written, Only, Torn, Shortened};
 ghost use Rattle.cp_disk.specs.declared.disk.Fault.TheVariants as fault;
+ghost use Rattle.cp_disk.specs.Causes.{CountsFailures};
 ghost use Rattle.cp_journal.specs.Causes.{CountsRun};
 ghost use Rattle.cp_journal.specs.Moments.{LeavesOnly, Stays};
 
@@ -52,4 +53,15 @@ pub(crate) fn cut_synced<D: Disk>(disk: &mut D, end: u64) -> Result<(), Fault>
         Ok(()) => Ok(()),
         Err(Failed) => Err(Fault::Failed),
     }
+}
+
+/// The length of a disk whose bytes are all on it.
+pub(crate) fn read_len<D: Disk>(disk: &mut D) -> Result<u64, Failed>
+    requires durable { D.Told → Only (D.seen disk.old) (D.may_leave disk.old) }
+    ensures len { D.Told → IfOk result (λ len. len ≡ length (D.seen disk.old)) }
+    ensures stays { D.Told → Stays D.seen D.may_leave D.moment D.left_since disk.old disk.new }
+    ensures cause { CountsFailures (D.faults disk.old) (D.faults disk.new) (D.starved disk.old) (D.starved disk.new) result }
+    ensures orders { D.orders disk.new ≡ D.orders disk.old }
+{
+    disk.len()
 }
