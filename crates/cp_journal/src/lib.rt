@@ -10,3 +10,6 @@ mod steps;
 
 pub use error::JournalError;
 pub use journal::Journal;
+
+#[cfg(test)]
+mod tests;
