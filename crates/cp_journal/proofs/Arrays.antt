@@ -27,5 +27,5 @@ laid head body zeros first second is fits size blank first_is second_is =
     let byte : get_or first (4 + n) 0 ≡ 0 = ap (λ (l : List ℕ). get_or l (4 + n) 0) first_is ∙ behind head zeros (4 + n) is size (omega arith) (omega arith) ∙ blank (4 + n) in
     let end : drop (4 + n) first ≡ 0 ∷ drop (4 + n + 1) first = drop_more first (4 + n) 0 (omega arith) ∙ ap (λ (b : ℕ). b ∷ drop (4 + n + 1) first) byte in
     let whole : second ≡ (head ++ body ++ 0 ∷ []) ++ drop (4 + n + 1) first =
-      second_is ∙ ap (λ (l : List ℕ). (l ++ body) ++ drop (4 + n) first) start ∙ ap (λ (l : List ℕ). (head ++ body) ++ l) end ∙ sym (append_assoc (head ++ body) (0 ∷ []) (drop (4 + n + 1) first)) in
+    second_is ∙ ap (λ (l : List ℕ). (l ++ body) ++ drop (4 + n) first) start ∙ ap (λ (l : List ℕ). (head ++ body) ++ l) end ∙ sym (append_assoc (head ++ body) (0 ∷ []) (drop (4 + n + 1) first)) in
     ap (take (n + 5)) whole ∙ take_at (head ++ body ++ 0 ∷ []) (drop (4 + n + 1) first) (n + 5) (omega (arith, is, length-append (head ++ body) (0 ∷ []), length-append head body))

@@ -14,9 +14,9 @@ pub same_part : (n p : ℕ) (xs ys : List ℕ) → ((k : ℕ) → k < n → get_
     → take n (drop p xs) ≡ take n (drop p ys)
 same_part n p xs ys same within_xs within_ys =
     same_number_lists (take n (drop p xs)) (take n (drop p ys)) (part_length n p xs within_xs ∙ sym (part_length n p ys within_ys))
-      (λ k below.
-        let less : k < n = omega (arith, part_length n p xs within_xs) in
-        part_at n p k xs less ∙ same k less ∙ sym (part_at n p k ys less))
+    (λ k below.
+    let less : k < n = omega (arith, part_length n p xs within_xs) in
+    part_at n p k xs less ∙ same k less ∙ sym (part_at n p k ys less))
 
 -- a part of what stands in the middle
 pub middle : (front part back : List ℕ) (p n : ℕ) → p ≡ length front → n ≡ length part → take n (drop p (front ++ part ++ back)) ≡ part

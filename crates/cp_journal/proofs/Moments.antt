@@ -42,10 +42,10 @@ module _ {D : Type 0} (moment : D → ℕ) (left_since : D → ℕ → List ℕ 
   two_calls may_leave old mid new bytes step now only stays follows first no_more second =
       let here : (image : List ℕ) → may_leave old image → step bytes image = λ image left. subst (step bytes) (sym (only image left)) stays in
       let changed : (image : List ℕ) → may_leave mid image → step bytes image = λ image left.
-        let from = follows image left in subst (λ (b : List ℕ). step b image) (only from.0 from.1) from.2 in
+      let from = follows image left in subst (λ (b : List ℕ). step b image) (only from.0 from.1) from.2 in
       goes_on old mid new (step bytes) (may_leave new)
-        (goes_on old old mid (step bytes) (may_leave mid) (started old (step bytes) (λ image left. here image (now image left))) first changed)
-        second (λ image left. changed image (no_more image left))
+      (goes_on old old mid (step bytes) (may_leave mid) (started old (step bytes) (λ image left. here image (now image left))) first changed)
+      second (λ image left. changed image (no_more image left))
 
   -- no call yet
   pub stays_first : (seen : D → List ℕ) (may_leave : D → List ℕ → Type 0) (old : D) → ((image : List ℕ) → left_since old (moment old) image → may_leave old image) → Only (seen old) (may_leave old)

@@ -39,6 +39,7 @@ front_closed bodies gate file is =
   where
     front_same : (n : ℕ) (file : List ℕ) (i : ℕ) → i < n → slice_index (take n file) i ≡ slice_index file i
     front_same n file i below = grind (arith, common_steps)
+
     front_long : (m n : ℕ) (file : List ℕ) → m < n → n ≤ length file → m < length (take n file)
     front_long m n file less within = omega (arith, length-take n file)
 
@@ -60,9 +61,9 @@ module _ {D : Type 0} (seen : D → List ℕ) (may_leave : D → List ℕ → Ty
       → LeavesOnly moment left_since old new (λ image. records_of image ≡ records_of (seen old))
   opening_leaves stays leaves =
       joined moment left_since old mid new (λ image. records_of image ≡ records_of (seen old))
-        (weaker moment left_since old mid (λ image. image ≡ seen old) (λ image. records_of image ≡ records_of (seen old)) stays.leaves (λ image (is : image ≡ seen old). ap records_of is))
-        (weaker moment left_since mid new (λ image. records_of image ≡ records_of (seen mid)) (λ image. records_of image ≡ records_of (seen old)) leaves
-          (λ image (is : records_of image ≡ records_of (seen mid)). is ∙ ap records_of stays.same))
+      (weaker moment left_since old mid (λ image. image ≡ seen old) (λ image. records_of image ≡ records_of (seen old)) stays.leaves (λ image (is : image ≡ seen old). ap records_of is))
+      (weaker moment left_since mid new (λ image. records_of image ≡ records_of (seen mid)) (λ image. records_of image ≡ records_of (seen old)) leaves
+      (λ image (is : records_of image ≡ records_of (seen mid)). is ∙ ap records_of stays.same))
 
   pub opened_file : (bodies : List (List ℕ)) (gate : ℕ) → IsClosed bodies gate (seen old) → seen mid ≡ seen old → IsAtRest gate (seen new) (may_leave new) × (records_of (seen new) ≡ records_of (seen mid))
       → IsOpened bodies (gate + 1) (seen old) (seen new) (may_leave new)

@@ -32,7 +32,7 @@ frame_same gate end body file other is same fits within within_other =
       is_open = omega (arith, is.is_open, same gate (omega arith));
       size = length_is;
       holds = ap (λ (k : ℕ). take k (drop (gate + 5) other)) length_is ∙ same_part n (gate + 5) other file (λ k below. same (gate + 5 + k) (omega arith)) (omega arith) (omega arith)
-        ∙ ap (λ (k : ℕ). take k (drop (gate + 5) file)) (sym is.size) ∙ is.holds;
+          ∙ ap (λ (k : ℕ). take k (drop (gate + 5) file)) (sym is.size) ∙ is.holds;
       is_body = is.is_body;
     }
 
@@ -190,7 +190,7 @@ written_staged gate at body file is within place =
     record {
       size = size_is;
       holds = ap (λ (k : ℕ). take k (drop (gate + 5) new)) size_is ∙ ap (λ (xs : List ℕ). take (length body) (drop (gate + 5) xs)) second
-        ∙ middle (front ++ head) body (0 ∷ rest) (gate + 5) (length body) (sym both) refl;
+          ∙ middle (front ++ head) body (0 ∷ rest) (gate + 5) (length body) (sym both) refl;
       next = ap (λ (xs : List ℕ). slice_index xs (gate + 5 + length body)) second ∙ zero_behind ((front ++ head) ++ body) rest (gate + 5 + length body) (omega (arith, length-append (front ++ head) body, both));
       within = omega (arith, ap length second, length-append ((front ++ head) ++ body) (0 ∷ rest), length-append (front ++ head) body, both);
     }
@@ -200,12 +200,12 @@ staged_same : (gate : ℕ) (body file other : List ℕ) → IsStaged gate body f
 staged_same gate body file other is same longer =
     let n : ℕ = length body in
     let size : size_at gate other ≡ size_at gate file =
-      ap (from_be_bytes w32) (same_part 4 (gate + 1) other file (λ k below. same (gate + 1 + k) (omega (arith, is.within)) (omega arith)) (omega (arith, is.within)) (omega (arith, is.within))) in
+    ap (from_be_bytes w32) (same_part 4 (gate + 1) other file (λ k below. same (gate + 1 + k) (omega (arith, is.within)) (omega arith)) (omega (arith, is.within)) (omega (arith, is.within))) in
     record {
       size = size ∙ is.size;
       holds = ap (λ (k : ℕ). take k (drop (gate + 5) other)) (size ∙ is.size)
-        ∙ same_part n (gate + 5) other file (λ k below. same (gate + 5 + k) (omega (arith, is.within)) (omega arith)) (omega (arith, is.within)) (omega (arith, is.within))
-        ∙ ap (λ (k : ℕ). take k (drop (gate + 5) file)) (sym is.size) ∙ is.holds;
+          ∙ same_part n (gate + 5) other file (λ k below. same (gate + 5 + k) (omega (arith, is.within)) (omega arith)) (omega (arith, is.within)) (omega (arith, is.within))
+          ∙ ap (λ (k : ℕ). take k (drop (gate + 5) file)) (sym is.size) ∙ is.holds;
       next = same (gate + 5 + n) is.within (omega arith) ∙ is.next;
       within = omega (arith, is.within);
     }
@@ -228,6 +228,7 @@ written_torn at bytes old within = record {
   where
     written_same : (at : ℕ) (bytes old : List ℕ) → at ≤ length old → (i : ℕ) → i < length old → (i < at) ⊎ (at + length bytes ≤ i) → slice_index (written old at bytes) i ≡ slice_index old i
     written_same at bytes old within i below place = grind (arith, common_steps)
+
     written_length : (at : ℕ) (bytes old : List ℕ) → at ≤ length old → length (written old at bytes) ≡ max (length old) (at + length bytes)
     written_length at bytes old within = grind (arith, common_steps)
 
@@ -277,7 +278,7 @@ module _ (bodies : List (List ℕ)) (gate : ℕ) (body file : List ℕ) (closed 
 
   pub opened_records : records_of (written (written file (gate + 1) (record_bytes body)) gate (1 ∷ [])) ≡ and_record (records_of file) body
   opened_records = closed_records (bodies ++ body ∷ []) (gate + 5 + length body) _ gate_opened
-    ∙ sym (ap (λ (r : Result (List (List ℕ)) ℕ). and_record r body) (closed_records bodies gate file closed))
+      ∙ sym (ap (λ (r : Result (List (List ℕ)) ℕ). and_record r body) (closed_records bodies gate file closed))
 
   -- where the gate was not opened for want of memory, the record stands behind it and does not count
   pub stage_records : records_of (written file (gate + 1) (record_bytes body)) ≡ records_of file

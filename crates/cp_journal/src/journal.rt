@@ -10,9 +10,9 @@ ghost use Rattle.cp_journal.specs.Found.{lists};
 ghost use Rattle.cp_journal.specs.Opening.{IsImageOrSame, IsOpened};
 ghost use Rattle.cp_journal.specs.Records.{IsBody, IsBeforeOrAfter, and_record, record_bytes, records_of};
 
-use crate::append::{append_record, long_record, small_record, SMALL};
-use crate::opening::recover;
 use crate::JournalError;
+use crate::append::{SMALL, append_record, long_record, small_record};
+use crate::opening::recover;
 use cp_base::NoMemory;
 use cp_disk::{CrashDisk, Disk, Fault};
 use std::alloc::Global;

@@ -9,9 +9,9 @@ ghost use Rattle.cp_journal.specs.Moments.{LeavesOnly};
 ghost use Rattle.cp_journal.specs.Opening.{IsImageOrSame, IsOpened};
 ghost use Rattle.cp_journal.specs.Records.{records_of};
 
+use crate::JournalError;
 use crate::reading::read_records;
 use crate::steps::{cut_synced, read_len, write_synced};
-use crate::JournalError;
 use cp_disk::{Disk, Failed, Fault};
 use std::alloc::Global;
 
@@ -85,10 +85,7 @@ fn open_long<D: Disk>(
 
 #[tactic(auto, using(crate::proofs::Causes::carried))]
 /// Opens a file whose bytes are all on the disk.
-fn open_synced<D: Disk>(
-    alloc: Global,
-    disk: &mut D,
-) -> Result<(Vec<Vec<u8>>, u64), JournalError>
+fn open_synced<D: Disk>(alloc: Global, disk: &mut D) -> Result<(Vec<Vec<u8>>, u64), JournalError>
     requires durable { D.Told → Only (D.seen disk.old) (D.may_leave disk.old) }
     ensures opened { D.Told → IfOk result (λ opened. IsOpened (lists opened.0.items) opened.1 (D.seen disk.old) (D.seen disk.new) (D.may_leave disk.new)) }
     ensures some { IfOk result (λ opened. 1 ≤ opened.1) }

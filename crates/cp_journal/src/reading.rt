@@ -9,8 +9,8 @@ ghost use Rattle.cp_journal.specs.Frames.{IsClosed};
 ghost use Rattle.cp_journal.specs.Moments.{Stays};
 ghost use Rattle.cp_journal.specs.Records.{is_whole, size_at, records_of};
 
-use crate::steps::read_at;
 use crate::JournalError;
+use crate::steps::read_at;
 use cp_disk::{Disk, Fault};
 use std::alloc::Global;
 

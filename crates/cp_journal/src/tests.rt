@@ -72,7 +72,13 @@ fn a_fresh_journal_has_one_closed_gate(rt: HostRuntime) -> Result<(), Fail> {
     assert_eq!(rt; journal.journal_bytes(), 8);
     journal.append(alloc, &[9])?;
     let mut disk = journal.close();
-    assert!(rt; holds(alloc, &mut disk, &[1, 0, 0, 0, 2, 7, 8, 1, 0, 0, 0, 1, 9, 0])?);
+    assert!(rt;
+        holds(
+            alloc,
+            &mut disk,
+            &[1, 0, 0, 0, 2, 7, 8, 1, 0, 0, 0, 1, 9, 0]
+        )?
+    );
     Ok(())
 }
 

@@ -18,11 +18,11 @@ write_synced-requires g c = record {
 pub write_synced-requires-2 : goal.write_synced-requires-2
 write_synced-requires-2 g c = record {
   within = λ told.
-    let rest = resting c.args.gate (g.D.Disk.seen c.args.disk.now) (g.D.Disk.may_leave c.args.disk.now) (c.requires.rest told) in
-    let new = written (g.D.Disk.seen c.args.disk.now) (c.args.gate + 1) c.args.bytes.now in
-    let closed : IsClosed rest.bodies c.args.gate new = torn_behind rest.bodies c.args.gate (c.args.gate + 1) (length c.args.bytes.now) (g.D.Disk.seen c.args.disk.now) new rest.closed refl
+      let rest = resting c.args.gate (g.D.Disk.seen c.args.disk.now) (g.D.Disk.may_leave c.args.disk.now) (c.requires.rest told) in
+      let new = written (g.D.Disk.seen c.args.disk.now) (c.args.gate + 1) c.args.bytes.now in
+      let closed : IsClosed rest.bodies c.args.gate new = torn_behind rest.bodies c.args.gate (c.args.gate + 1) (length c.args.bytes.now) (g.D.Disk.seen c.args.disk.now) new rest.closed refl
       (written_torn (c.args.gate + 1) c.args.bytes.now (g.D.Disk.seen c.args.disk.now) (omega (arith, rest.closed.within))) in
-    omega (arith, closed.within, ap length (c.in_ok-write_synced.ensures.written told));
+      omega (arith, closed.within, ap length (c.in_ok-write_synced.ensures.written told));
   durable = λ told. c.in_ok-write_synced.ensures.durable told;
 }
 
@@ -31,7 +31,7 @@ returns-in_err-write_synced-clause-any_moment g c body is_body is told =
     let rest = resting c.args.gate (g.D.Disk.seen c.args.disk.now) (g.D.Disk.may_leave c.args.disk.now) (c.requires.rest told) in
     let file = g.D.Disk.seen c.args.disk.now in
     weaker g.D.Disk.moment g.D.Disk.left_since c.args.disk.now c.write_synced.new.disk (Torn (c.args.gate + 1) (length c.args.bytes.now) file) (IsBeforeOrAfter (records_of file) body)
-      (c.write_synced.ensures.any_moment told) (stage_leaves rest.bodies c.args.gate body file rest.closed is_body (length c.args.bytes.now))
+    (c.write_synced.ensures.any_moment told) (stage_leaves rest.bodies c.args.gate body file rest.closed is_body (length c.args.bytes.now))
 
 pub returns-in-Err-clause-any_moment : goal.returns-in-Err-clause-any_moment
 returns-in-Err-clause-any_moment g c body is_body is told =
@@ -42,10 +42,10 @@ returns-in-Err-clause-any_moment g c body is_body is told =
     let l = g.D.Disk.left_since in
     let mid : g.D.Disk.seen c.write_synced.new.disk ≡ written file (c.args.gate + 1) (record_bytes body) = c.in_ok-write_synced.ensures.written told ∙ ap (written file (c.args.gate + 1)) is in
     joined m l c.args.disk.now c.write_synced.new.disk c.write_synced-2.new.disk P
-      (weaker m l c.args.disk.now c.write_synced.new.disk (Torn (c.args.gate + 1) (length c.args.bytes.now) file) P
-        (c.write_synced.ensures.any_moment told) (stage_leaves rest.bodies c.args.gate body file rest.closed is_body (length c.args.bytes.now)))
-      (weaker m l c.write_synced.new.disk c.write_synced-2.new.disk (Torn c.args.gate 1 (g.D.Disk.seen c.write_synced.new.disk)) P (c.write_synced-2.ensures.any_moment told)
-        (λ image torn. gate_leaves rest.bodies c.args.gate body file rest.closed is_body image (subst (λ (f : List ℕ). Torn c.args.gate 1 f image) mid torn)))
+    (weaker m l c.args.disk.now c.write_synced.new.disk (Torn (c.args.gate + 1) (length c.args.bytes.now) file) P
+    (c.write_synced.ensures.any_moment told) (stage_leaves rest.bodies c.args.gate body file rest.closed is_body (length c.args.bytes.now)))
+    (weaker m l c.write_synced.new.disk c.write_synced-2.new.disk (Torn c.args.gate 1 (g.D.Disk.seen c.write_synced.new.disk)) P (c.write_synced-2.ensures.any_moment told)
+    (λ image torn. gate_leaves rest.bodies c.args.gate body file rest.closed is_body image (subst (λ (f : List ℕ). Torn c.args.gate 1 f image) mid torn)))
 
 pub returns-in-Ok-clause-any_moment : goal.returns-in-Ok-clause-any_moment
 returns-in-Ok-clause-any_moment g c body is_body is told =
@@ -56,10 +56,10 @@ returns-in-Ok-clause-any_moment g c body is_body is told =
     let l = g.D.Disk.left_since in
     let mid : g.D.Disk.seen c.write_synced.new.disk ≡ written file (c.args.gate + 1) (record_bytes body) = c.in_ok-write_synced.ensures.written told ∙ ap (written file (c.args.gate + 1)) is in
     joined m l c.args.disk.now c.write_synced.new.disk c.write_synced-2.new.disk P
-      (weaker m l c.args.disk.now c.write_synced.new.disk (Torn (c.args.gate + 1) (length c.args.bytes.now) file) P
-        (c.write_synced.ensures.any_moment told) (stage_leaves rest.bodies c.args.gate body file rest.closed is_body (length c.args.bytes.now)))
-      (weaker m l c.write_synced.new.disk c.write_synced-2.new.disk (Torn c.args.gate 1 (g.D.Disk.seen c.write_synced.new.disk)) P (c.write_synced-2.ensures.any_moment told)
-        (λ image torn. gate_leaves rest.bodies c.args.gate body file rest.closed is_body image (subst (λ (f : List ℕ). Torn c.args.gate 1 f image) mid torn)))
+    (weaker m l c.args.disk.now c.write_synced.new.disk (Torn (c.args.gate + 1) (length c.args.bytes.now) file) P
+    (c.write_synced.ensures.any_moment told) (stage_leaves rest.bodies c.args.gate body file rest.closed is_body (length c.args.bytes.now)))
+    (weaker m l c.write_synced.new.disk c.write_synced-2.new.disk (Torn c.args.gate 1 (g.D.Disk.seen c.write_synced.new.disk)) P (c.write_synced-2.ensures.any_moment told)
+    (λ image torn. gate_leaves rest.bodies c.args.gate body file rest.closed is_body image (subst (λ (f : List ℕ). Torn c.args.gate 1 f image) mid torn)))
 
 pub returns-in-Ok-clause-appended : goal.returns-in-Ok-clause-appended
 returns-in-Ok-clause-appended g c body is_body is told =
@@ -67,7 +67,7 @@ returns-in-Ok-clause-appended g c body is_body is told =
     let file = g.D.Disk.seen c.args.disk.now in
     let mid : g.D.Disk.seen c.write_synced.new.disk ≡ written file (c.args.gate + 1) (record_bytes body) = c.in_ok-write_synced.ensures.written told ∙ ap (written file (c.args.gate + 1)) is in
     let new : g.D.Disk.seen c.write_synced-2.new.disk ≡ written (written file (c.args.gate + 1) (record_bytes body)) c.args.gate (1 ∷ []) =
-      c.in-Ok.ensures.written told ∙ ap (λ (f : List ℕ). written f c.args.gate (1 ∷ [])) mid in (
+    c.in-Ok.ensures.written told ∙ ap (λ (f : List ℕ). written f c.args.gate (1 ∷ [])) mid in (
       at_rest _ _ _ (record {
         bodies = rest.bodies ++ body ∷ [];
         closed = subst (IsClosed (rest.bodies ++ body ∷ []) (c.args.gate + 5 + length body)) (sym new) (gate_opened rest.bodies c.args.gate body file rest.closed is_body);

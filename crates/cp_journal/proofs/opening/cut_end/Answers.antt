@@ -16,10 +16,10 @@ pub returns-in-Ok-clause-any_moment : goal.returns-in-Ok-clause-any_moment
 returns-in-Ok-clause-any_moment g c bodies told is =
     let file = g.D.Disk.seen c.args.disk.now in
     weaker g.D.Disk.moment g.D.Disk.left_since c.args.disk.now c.cut_synced.new.disk (Shortened (c.args.gate + 1) file) (λ image. records_of image ≡ records_of file) (c.cut_synced.ensures.any_moment told)
-      (λ image cut. cut_leaves bodies c.args.gate file image is cut)
+    (λ image cut. cut_leaves bodies c.args.gate file image is cut)
 
 pub returns-in-Err-clause-any_moment : goal.returns-in-Err-clause-any_moment
 returns-in-Err-clause-any_moment g c bodies told is =
     let file = g.D.Disk.seen c.args.disk.now in
     weaker g.D.Disk.moment g.D.Disk.left_since c.args.disk.now c.cut_synced.new.disk (Shortened (c.args.gate + 1) file) (λ image. records_of image ≡ records_of file) (c.cut_synced.ensures.any_moment told)
-      (λ image cut. cut_leaves bodies c.args.gate file image is cut)
+    (λ image cut. cut_leaves bodies c.args.gate file image is cut)

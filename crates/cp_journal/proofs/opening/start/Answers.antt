@@ -11,7 +11,7 @@ pub returns-in-Ok-clause-any_moment : goal.returns-in-Ok-clause-any_moment
 returns-in-Ok-clause-any_moment g c told =
     let file = g.D.Disk.seen c.args.disk.now in
     weaker g.D.Disk.moment g.D.Disk.left_since c.args.disk.now c.write_synced.new.disk (Torn 0 1 file) (λ image. records_of image ≡ records_of file) (c.write_synced.ensures.any_moment told)
-      (λ image torn. short_leaves file image (c.requires.short told) torn)
+    (λ image torn. short_leaves file image (c.requires.short told) torn)
 
 pub returns-in-Ok-clause-opened : goal.returns-in-Ok-clause-opened
 returns-in-Ok-clause-opened g c told =
@@ -24,10 +24,10 @@ pub returns-in-Err-Failed-clause-any_moment : goal.returns-in-Err-Failed-clause-
 returns-in-Err-Failed-clause-any_moment g c told =
     let file = g.D.Disk.seen c.args.disk.now in
     weaker g.D.Disk.moment g.D.Disk.left_since c.args.disk.now c.write_synced.new.disk (Torn 0 1 file) (λ image. records_of image ≡ records_of file) (c.write_synced.ensures.any_moment told)
-      (λ image torn. short_leaves file image (c.requires.short told) torn)
+    (λ image torn. short_leaves file image (c.requires.short told) torn)
 
 pub returns-in-Err-NoMemory-clause-any_moment : goal.returns-in-Err-NoMemory-clause-any_moment
 returns-in-Err-NoMemory-clause-any_moment g c told =
     let file = g.D.Disk.seen c.args.disk.now in
     weaker g.D.Disk.moment g.D.Disk.left_since c.args.disk.now c.write_synced.new.disk (Torn 0 1 file) (λ image. records_of image ≡ records_of file) (c.write_synced.ensures.any_moment told)
-      (λ image torn. short_leaves file image (c.requires.short told) torn)
+    (λ image torn. short_leaves file image (c.requires.short told) torn)
