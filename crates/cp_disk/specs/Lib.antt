@@ -1,0 +1,7 @@
+pub mod Causes
+pub mod Images
+pub mod Record
+pub mod Room
+pub mod Medium
+pub mod Laws
+pub mod Memory
