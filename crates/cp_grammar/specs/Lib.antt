@@ -1,0 +1,6 @@
+pub mod Grammar
+pub mod Lists
+pub mod Fields
+pub mod Words
+pub mod Lawful
+pub mod Readers
