@@ -6,9 +6,6 @@ use Rattle.std.proofs.lemmas.Bool.{ltb-false, le-ltb, eqb-true}
 use Rattle.std.proofs.lemmas.List.{take_at, drop_at, take-append-drop, length-append, length-take, append-nil, nil_from_length}
 use Rattle.cp_grammar.specs.Grammar.{Read, ◌>>=◌, Grammar, tokens, always, never, failing_at, one_field, checked, settled, seq, ◌then◌, keyed, mapped, spelled_of, FitsOf, variant, Chosen, case_by, case, no_case, placed, whole}
 use Rattle.cp_grammar.specs.Lawful.{IsLawful}
-use Rattle.cp_grammar.specs.Readers.{Tells}
-use Rattle.cp_grammar.specs.declared.stop.ReadError.{ReadError}
-use Rattle.std.specs.Prelude.{IfOk}
 
 -- ---- tools
 
@@ -255,7 +252,3 @@ module _ {T A : Type 0} (Good : T → Type 0) (g : Grammar T A) (law : IsLawful 
       let both = sym (law.again x a fx) ∙ ap g.reading e ∙ law.again y b fy in
       let h = ok_is (x, a) (y, b) both in
       (ap (λ (p : A × List T). p.0) h, ap (λ (p : A × List T). p.1) h)
-
-  pub is_found : (ts : List T) (r : Result A ReadError) → AllByRecursion Good ts → Tells r (whole g ts) → IfOk r (λ x. g.Fits x × (ts ≡ g.spelling x))
-  is_found ts (Ok x) good told = let h = whole_takes ts x good told in (h.1, h.0)
-  is_found ts (Err e) good told = tt

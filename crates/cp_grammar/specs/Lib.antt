@@ -3,4 +3,3 @@ pub mod Lists
 pub mod Fields
 pub mod Words
 pub mod Lawful
-pub mod Readers
