@@ -18,7 +18,6 @@ use Rattle.cp_codec.proofs.Wide.{IsWide, wide8, wide32, wide64, take_bytes}
 abbrev pub Field : Type 0 → Type 0
 Field A = Result (A × ℕ) FieldError
 
-
 abbrev read : {A : Type 0} → A × ℕ → Field A
 read x = Ok x
 

@@ -5,5 +5,4 @@ ghost use Rattle.cp_codec.specs.Exact.{FieldsAreExact};
 /// no spelling begins another.
 pub fn fields_are_exact()
     ensures { FieldsAreExact }
-{
-}
+{}

@@ -10,7 +10,9 @@ use crate::lists::{Item, append_list, take_list};
 use crate::spelled::Spelled;
 use crate::stop::Stop;
 use crate::writing::{append_array, append_bytes, append_u8, append_u64};
-use cp_base::{ClientId, GroupId, Invocation, Items, MemberNo, Name, NameError, NoMemory, ThreadNo};
+use cp_base::{
+    ClientId, GroupId, Invocation, Items, MemberNo, Name, NameError, NoMemory, ThreadNo,
+};
 use std::alloc::Global;
 use uuid::Uuid;
 
@@ -18,7 +20,9 @@ use uuid::Uuid;
 pub const MOST_INDEX: u64 = 1 << 62;
 
 const MOST_NAME: u32 = 64;
+
 const MOST_THREAD: u8 = 8;
+
 const MOST_MEMBER: u8 = 9;
 
 /// A term, an index, a session or a number of a call: at most 2^62.

@@ -26,4 +26,6 @@ pub use words::{
     LINE, SPACE, append_number_word, append_word, is_token, read_own_decimal, take_number_word,
     take_token, take_word,
 };
-pub use writing::{append_array, append_bytes, append_flag, append_i64, append_u8, append_u32, append_u64};
+pub use writing::{
+    append_array, append_bytes, append_flag, append_i64, append_u8, append_u32, append_u64,
+};

@@ -33,11 +33,7 @@ pub trait Item: Sized + Drop {
 }
 
 /// So many items, and the bytes after them.
-pub fn take_items<T: Item>(
-    alloc: Global,
-    count: u32,
-    bytes: &[u8],
-) -> Result<(Vec<T>, &[u8]), Stop>
+pub fn take_items<T: Item>(alloc: Global, count: u32, bytes: &[u8]) -> Result<(Vec<T>, &[u8]), Stop>
     ensures { Gives (λ x. (x.0.items, x.1.now)) result (items_reading T.item [] count bytes.now) }
 {
     let mut items = Vec::new(alloc);
