@@ -1,0 +1,4 @@
+pub mod Laws
+pub mod ListLaws
+pub mod FieldLaws
+pub mod WordLaws

@@ -1,0 +1,5 @@
+pub mod Grammar
+pub mod Lists
+pub mod Fields
+pub mod Words
+pub mod Lawful

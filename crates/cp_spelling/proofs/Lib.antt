@@ -1,0 +1,4 @@
+pub mod Found
+pub mod ItemLoop
+pub mod LineLoop
+pub mod Ends
