@@ -1,0 +1,41 @@
+-- What holds of the state of a group after every history.
+use Rattle.std.specs.Prelude.{List, All}
+use Rattle.cp_group_state.specs.Fences.{states}
+use Rattle.std.specs.declared.cmp.Ordering.{Ordering}
+use Rattle.std.specs.Ordering.{nat_cmp}
+use Rattle.std.specs.Map.{keys_of}
+use Rattle.std.specs.List.Sorted.{IsStrictlySortedBy}
+use Rattle.cp_ops_next.specs.declared.entry.Entry.{Entry}
+use Rattle.cp_group_state.specs.Rows.{name_cmp, object_cmp, holding_cmp, holder_cmp, pair_cmp}
+use Rattle.std.specs.Prelude.{true, ◌≡◌, ℕ}
+use Rattle.std.specs.Map.{values_of}
+use Rattle.cp_group_state.specs.Locks.{LockRow, is_free, free_lock}
+use Rattle.cp_group_state.specs.Group.{GroupState}
+
+-- the keys rise
+abbrev pub IsRising : {K X : Type 0} → (K → K → Ordering) → List (K × X) → Type 0
+IsRising cmp rows = IsStrictlySortedBy cmp (keys_of rows)
+
+-- Each list is in rising order of its keys.
+pub record IsOrdered (s : GroupState) : Type 0 where
+  pub sessions : IsRising nat_cmp s.sessions
+  pub locks : IsRising name_cmp s.locks
+  pub semaphores : IsRising object_cmp s.semaphores.rows
+  pub holdings : IsRising holding_cmp s.semaphores.holdings
+  pub latches : IsRising name_cmp s.latches
+  pub longs : IsRising name_cmp s.longs
+  pub refs : IsRising name_cmp s.refs
+  pub gone : IsRising object_cmp s.gone
+  pub maps : IsRising pair_cmp s.maps
+  pub memory : IsRising holder_cmp s.memory
+
+-- every state of a history
+abbrev pub Always : (GroupState → Type 0) → List Entry → Type 0
+Always P es = All P (states es)
+
+-- without holds a lock row is the free one
+abbrev pub IsHeldOrFree : LockRow → Type 0
+IsHeldOrFree row = is_free row ≡ true → row ≡ free_lock
+
+abbrev pub LocksWell : List (List ℕ × LockRow) → Type 0
+LocksWell rows = All IsHeldOrFree (values_of rows)

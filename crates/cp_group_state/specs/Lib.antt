@@ -1,0 +1,14 @@
+pub mod Rows
+pub mod Waiters
+pub mod Memory
+pub mod Sessions
+pub mod Locks
+pub mod Semaphores
+pub mod Latches
+pub mod Atomics
+pub mod Maps
+pub mod Group
+pub mod Examples
+pub mod History
+pub mod Fences
+pub mod Invariants
