@@ -12,3 +12,4 @@ pub mod Examples
 pub mod History
 pub mod Fences
 pub mod Invariants
+pub mod Laws

@@ -2,6 +2,34 @@
 //! history. No code: the functions below state laws.
 #![tactic(auto)]
 
+ghost use Rattle.cp_group_state.specs.Laws.{CallsActAtMostOnce, FencesAlwaysRise, ListsStayOrdered, AnsweredFencesStand, LocksAreHeldOrFree};
+
 mod rows;
 
 pub use rows::{Holder, LatchRow, LockRow, MemoryRow, SemaphoreRow, SessionRow, Waiter};
+
+/// In every orderly history each call with a session, and each countdown of a latch, acts at most once.
+pub fn calls_act_at_most_once()
+    ensures { CallsActAtMostOnce }
+{}
+
+/// Of two moments at which a lock is held, either one owner holds it under one fence, or the later fence is greater.
+pub fn fences_rise()
+    ensures { FencesAlwaysRise }
+{}
+
+/// Each list of the state stays in rising order of its keys.
+pub fn lists_stay_ordered()
+    ensures { ListsStayOrdered }
+{}
+
+/// A fence that is answered is that of a lock which the call's thread holds after the entry, or it was told to the
+/// call before.
+pub fn answered_fences_stand()
+    ensures { AnsweredFencesStand }
+{}
+
+/// Without holds every number in a lock's row is 0.
+pub fn locks_are_held_or_free()
+    ensures { LocksAreHeldOrFree }
+{}
