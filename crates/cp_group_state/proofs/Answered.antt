@@ -16,7 +16,13 @@ use Rattle.cp_group_state.specs.Memory.{MemoryRow}
 use Rattle.cp_group_state.specs.Sessions.{is_open_for, unchanged_since}
 use Rattle.cp_group_state.specs.Locks.{LockRow}
 use Rattle.cp_group_state.specs.Latches.{LatchRow}
-use Rattle.cp_group_state.specs.Group.{GroupState, Change, Step, Reply, Answered, Waits, empty, run, apply, call_step, by_session, by_memory, perform, settle, settle_wait, remembered, join, session_in, is_elsewhere, supersede, outcome, told, give_again, changed, close, serve_left, for_each, time_out, destroy_group}
+use Rattle.cp_group_state.specs.GroupState.{GroupState, empty}
+use Rattle.cp_group_state.specs.Changes.{Change, for_each}
+use Rattle.cp_group_state.specs.Apply.{Applied, run, apply, apply_call, by_session, by_memory, perform, settle, settle_wait, remembered, join, is_elsewhere, supersede, outcome, told, give_again, changed, time_out, destroy_group}
+use Rattle.cp_group_state.specs.Outcomes.{Reply, Answered, Waits}
+use Rattle.cp_group_state.specs.Protected.{session_in}
+use Rattle.cp_group_state.specs.Closing.{close}
+use Rattle.cp_group_state.specs.Serving.{serve_left}
 use Rattle.cp_group_state.specs.Fences.{IsHeldUnder, FencesStand}
 use Rattle.cp_group_state.specs.History.{IsOrderly, IsOrderlyFrom}
 use Rattle.cp_group_state.proofs.Rising.{Rising}
@@ -37,7 +43,7 @@ none : (locks : List (List ℕ × LockRow)) → AnswersStand locks []
 none locks = All-nil (λ (a : Invocation × Answer). IsHeldUnder locks a.0 a.1)
 
 -- the step has these locks, and its answers stand
-abbrev pub StepLocked : List (List ℕ × LockRow) → Step → Type 0
+abbrev pub StepLocked : List (List ℕ × LockRow) → Applied → Type 0
 StepLocked locks step = (step.state.locks ≡ locks) × AnswersStand locks step.answers
 
 remembered-locks : (so : Option ℕ) (call : Invocation) (a : Option Answer) (s : GroupState) → (remembered so call a s).locks ≡ s.locks
@@ -54,10 +60,10 @@ settle-locked so call (Waits w) c h own = let x = wait in (x.0, All-append (λ (
         (remembered-locks so call (Some (answer.TableFull most)) c.state, All-cons (λ (a : Invocation × Answer). IsHeldUnder c.state.locks a.0 a.1) (call, answer.TableFull most) [] tt (none c.state.locks)))
 
 -- the answers stand, or were told
-abbrev pub StepStands : List (Invocation × Answer) → Step → Type 0
+abbrev pub StepStands : List (Invocation × Answer) → Applied → Type 0
 StepStands past step = All (λ (a : Invocation × Answer). Contains past a ⊎ IsHeldUnder step.state.locks a.0 a.1) step.answers
 
-of-locked : (past : List (Invocation × Answer)) (locks : List (List ℕ × LockRow)) (step : Step) → StepLocked locks step → StepStands past step
+of-locked : (past : List (Invocation × Answer)) (locks : List (List ℕ × LockRow)) (step : Applied) → StepLocked locks step → StepStands past step
 of-locked past locks step h = All-weaker (λ (a : Invocation × Answer). IsHeldUnder locks a.0 a.1) (λ (a : Invocation × Answer). Contains past a ⊎ IsHeldUnder step.state.locks a.0 a.1)
     (λ a k. inr (subst (λ l. IsHeldUnder l a.0 a.1) (sym h.0) k)) step.answers h.1
 
@@ -91,8 +97,8 @@ session-stands i past call o None s h told_all = perform-stands i past call o s 
 session-stands i past call o (Some session) s h told_all = cases (StepStands past) (is_open_for s.sessions session call.client) _ _
     (λ e. memory-stands i past call o session _ s h told_all e refl) (λ e. one-stands past call (answer.SessionExpired session) s (inr tt))
 
-call-stands : (i : ℕ) (past : List (Invocation × Answer)) (call : Invocation) (o : Op) (s : GroupState) → Rising name_cmp s.locks → Told i past s → StepStands past (call_step i call o s)
-call-stands i past call o s h told_all = either (StepStands past) (s.destroyed.0 == 0) _ _ live (one-stands past call (answer.GroupDestroyed s.destroyed) s (inr tt))
+call-stands : (i : ℕ) (past : List (Invocation × Answer)) (call : Invocation) (o : Op) (s : GroupState) → Rising name_cmp s.locks → Told i past s → StepStands past (apply_call i call o s)
+call-stands i past call o s h told_all = either (StepStands past) (s.destroyed_group.0 == 0) _ _ live (one-stands past call (answer.GroupDestroyed s.destroyed_group) s (inr tt))
   where
     first : Change
     first = supersede call s

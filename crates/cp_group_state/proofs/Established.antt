@@ -19,8 +19,17 @@ use Rattle.cp_group_state.specs.Memory.{MemoryRow}
 use Rattle.cp_group_state.specs.Sessions.{is_open_for}
 use Rattle.cp_group_state.specs.Latches.{LatchRow, latch_at, latch_step, most_counted, LatchOutcome}
 use Rattle.cp_group_state.specs.Latches as countdown
-use Rattle.cp_group_state.specs.Group.{end_sessions, GroupState, Change, Step, Reply, Answered, Waits, supersede, outcome, remembered, settle, join, perform, by_memory, by_session, session_in, is_gone, on_latch, add_gone, drop_rows}
-use Rattle.cp_group_state.specs.History.{down_in, IsReached, is_full_answer}
+use Rattle.cp_group_state.specs.Closing.{end_sessions}
+use Rattle.cp_group_state.specs.GroupState.{GroupState}
+use Rattle.cp_group_state.specs.Changes.{Change}
+use Rattle.cp_group_state.specs.Apply.{Applied, supersede, outcome, remembered, settle, join, perform, by_memory, by_session}
+use Rattle.cp_group_state.specs.Outcomes.{Reply, Answered, Waits}
+use Rattle.cp_group_state.specs.Protected.{session_in}
+use Rattle.cp_group_state.specs.Destroying.{is_gone, add_gone, drop_rows}
+use Rattle.cp_group_state.specs.LatchRules.{on_latch}
+use Rattle.cp_group_state.specs.Protected.{down_in}
+use Rattle.cp_group_state.specs.Repeats.{is_full_answer}
+use Rattle.cp_group_state.specs.History.{IsReached}
 use Rattle.cp_group_state.proofs.Keyed.{equal_is, no_true, find-put_same, find-without_other, holder_key, name_key}
 use Rattle.cp_group_state.proofs.Walk.{cases, either, Closed, walk_on_latch, walk_supersede, keep_settle}
 use Rattle.cp_group_state.proofs.Grows.{Reaches, Grows, Over, grows_closed, gone-put, gone-put_same}
@@ -134,8 +143,8 @@ of-reaches i s call o session so below h = alive (rw so (below, h)) (rw (session
 settle-settled : (i : ℕ) (session : ℕ) (call : Invocation) (o : Op) (r : Reply) (c : Change) → session_in o ≡ Some session → session < i → (stands call c.state.waiters ≡ true → Settled i c.state call o)
     → Settled i (settle (Some session) call r c).state call o
 settle-settled i session call o (Answered a) c so below h = of-reaches i _ call o session so below (λ x. remembered-reaches session call (Some a) c.state)
-settle-settled i session call o (Waits w) c so below h = cases (λ (r : Step). Settled i r.state call o) (stands call c.state.waiters) _ _ h
-    (λ e. either (λ (r : Step). Settled i r.state call o) (nat_lt (length c.state.waiters) most) _ _
+settle-settled i session call o (Waits w) c so below h = cases (λ (r : Applied). Settled i r.state call o) (stands call c.state.waiters) _ _ h
+    (λ e. either (λ (r : Applied). Settled i r.state call o) (nat_lt (length c.state.waiters) most) _ _
     (of-reaches i (remembered (Some session) call None (join w c.state)) call o session so below (λ x. remembered-reaches session call None (join w c.state)))
     (of-reaches i (remembered (Some session) call (Some (answer.TableFull most)) c.state) call o session so below (λ x. remembered-reaches session call (Some (answer.TableFull most)) c.state)))
 
@@ -149,9 +158,9 @@ perform-settled i session call o s so below h = subst (λ x. Settled i (settle x
 
 memory-settled : (i : ℕ) (session : ℕ) (call : Invocation) (o : Op) (s : GroupState) (row : Option MemoryRow) → find holder_cmp s.memory (session, call.thread.0) ≡ row → session_in o ≡ Some session → session < i → StandsSettled i s call o → Settled i (by_memory i call o row s).state call o
 memory-settled i session call o s None is so below h = perform-settled i session call o s so below h
-memory-settled i session call o s (Some row) is so below h = cases (λ (r : Step). Settled i r.state call o) (row.number == call.number) _ _
+memory-settled i session call o s (Some row) is so below h = cases (λ (r : Applied). Settled i r.state call o) (row.number == call.number) _ _
     (λ e. of-reaches i s call o session so below (λ x. (row, is, at_same row.number call.number e)))
-    (λ e. cases (λ (r : Step). Settled i r.state call o) (nat_lt call.number row.number) _ _
+    (λ e. cases (λ (r : Applied). Settled i r.state call o) (nat_lt call.number row.number) _ _
     (λ l. of-reaches i s call o session so below (λ x. (row, is, at_less call.number row.number l)))
     (λ l. perform-settled i session call o s so below h))
   where
@@ -162,7 +171,7 @@ memory-settled i session call o s (Some row) is so below h = cases (λ (r : Step
     at_less a b h = grind (arith, nat_tests)
 
 pub session-settled : (i : ℕ) (session : ℕ) (call : Invocation) (o : Op) (s : GroupState) → session_in o ≡ Some session → session < i → StandsSettled i s call o → Settled i (by_session i call o (Some session) s).state call o
-session-settled i session call o s so below h = cases (λ (r : Step). Settled i r.state call o) (is_open_for s.sessions session call.client) _ _
+session-settled i session call o s so below h = cases (λ (r : Applied). Settled i r.state call o) (is_open_for s.sessions session call.client) _ _
     (λ e. memory-settled i session call o s _ refl so below h)
     (λ e. of-reaches i s call o session so below (λ x. absurd (no_true (sym x ∙ e))))
 

@@ -16,7 +16,10 @@ use Rattle.cp_group_state.specs.Rows.{find, put, without, name_cmp, has_room, mo
 use Rattle.cp_group_state.specs.Sessions.{unchanged_since}
 use Rattle.cp_group_state.specs.Locks.{LockRow, Acquired, Release, free_lock, held_once, or_free, lock_at, is_free, is_held_by, is_held_among, most_holds, acquired, released_by, freed, freed_all}
 use Rattle.cp_group_state.specs.Latches.{latch_step}
-use Rattle.cp_group_state.specs.Group.{GroupState, Step, empty, run, apply, call_step, session_in, is_elsewhere, supersede, outcome, add_gone, drop_rows}
+use Rattle.cp_group_state.specs.GroupState.{GroupState, empty}
+use Rattle.cp_group_state.specs.Apply.{Applied, run, apply, apply_call, is_elsewhere, supersede, outcome}
+use Rattle.cp_group_state.specs.Protected.{session_in}
+use Rattle.cp_group_state.specs.Destroying.{add_gone, drop_rows}
 use Rattle.cp_group_state.specs.Fences.{IsSameHold, FencesRise}
 use Rattle.cp_group_state.proofs.Keyed.{equal_is, no_true, find-put_same, find-put_other, find-without_other, name_key}
 use Rattle.cp_group_state.proofs.Rising.{Rising, rising-put, rising-without, find-without_same}
@@ -139,15 +142,15 @@ locks-outcome : (i : ℕ) (call : Invocation) (o : Op) (s : GroupState) → Lock
 locks-outcome i call o s = walk_outcome i (λ s c. LocksHold i s.locks c.state.locks) (λ s c. LocksHold i s.locks c.state.locks) (locks_closed i) (λ s c g. g) call o s
     (λ e name l is. walk_on_latch i (λ s c. LocksHold i s.locks c.state.locks) (locks_closed i) call name l (latch_step s.latches name call l).outcome (record s { latches = (latch_step s.latches name call l).after }))
 
-locks-call : (i : ℕ) (call : Invocation) (o : Op) (s : GroupState) → LocksHold i s.locks (call_step i call o s).state.locks
-locks-call i call o s = either (λ (r : Step). LocksHold i s.locks r.state.locks) (s.destroyed.0 == 0) _ _
+locks-call : (i : ℕ) (call : Invocation) (o : Op) (s : GroupState) → LocksHold i s.locks (apply_call i call o s).state.locks
+locks-call i call o s = either (λ (r : Applied). LocksHold i s.locks r.state.locks) (s.destroyed_group.0 == 0) _ _
     (locks-on i s.locks (supersede call s).state.locks _ (walk_supersede i (λ s c. LocksHold i s.locks c.state.locks) (locks_closed i) call s)
     (keep_session (λ t. LocksHold i (supersede call s).state.locks t.locks) (λ t ws m g. g) i call o (session_in o) (supersede call s).state (locks-same i (supersede call s).state.locks) (locks-outcome i call o (supersede call s).state)))
     (locks-same i s.locks)
 
 pub locks-apply : (i : ℕ) (e : Entry) (s : GroupState) → LocksHold i s.locks (apply i e s).state.locks
 locks-apply i entry.Empty s = locks-same i s.locks
-locks-apply i (entry.Call call o) s = either (λ (r : Step). LocksHold i s.locks r.state.locks) (is_elsewhere o) _ _ (locks-same i s.locks) (locks-call i call o s)
+locks-apply i (entry.Call call o) s = either (λ (r : Applied). LocksHold i s.locks r.state.locks) (is_elsewhere o) _ _ (locks-same i s.locks) (locks-call i call o s)
 locks-apply i (entry.SessionsExpired pairs) s = walk_close i (λ s c. LocksHold i s.locks c.state.locks) (locks_closed i) (unchanged_since s.sessions pairs) s
 locks-apply i (entry.WaitsExpired calls) s = walk_time_out i (λ s c. LocksHold i s.locks c.state.locks) (locks_closed i) calls s
 locks-apply i (entry.Members call plan members) s = locks-same i s.locks

@@ -15,7 +15,10 @@ use Rattle.cp_group_state.specs.Waiters.{Ended}
 use Rattle.cp_group_state.specs.Memory.{MemoryRow, has_memory, remember, note, note_at, note_all}
 use Rattle.cp_group_state.specs.Sessions.{SessionRow, is_of, is_open_for, beaten, is_among}
 use Rattle.cp_group_state.specs.Latches.{LatchRow, latch_at, is_over}
-use Rattle.cp_group_state.specs.Group.{end_sessions, GroupState, finish, forget, add_gone, drop_rows, is_gone}
+use Rattle.cp_group_state.specs.Closing.{end_sessions, forget}
+use Rattle.cp_group_state.specs.GroupState.{GroupState}
+use Rattle.cp_group_state.specs.Changes.{finish}
+use Rattle.cp_group_state.specs.Destroying.{add_gone, drop_rows, is_gone}
 use Rattle.cp_group_state.proofs.Keyed.{no_true, equal_is, is_at_apart, find-put_same, find-put_other, find-filter_kept, find-filter_gone, find-without_other, number_key, name_key, object_key, holder_key}
 use Rattle.cp_group_state.proofs.Walk.{either, Closed}
 
@@ -51,18 +54,18 @@ abbrev pub Over : List (List ℕ × LatchRow) → List ℕ → Invocation → �
 Over rows name call round = (round ≤ (latch_at rows name).round) × (is_over call round (latch_at rows name) ≡ true)
 
 pub record Grows (i : ℕ) (s t : GroupState) : Type 0 where
-  pub destroyed : (s.destroyed.0 == 0) ≡ false → t.destroyed ≡ s.destroyed
+  pub destroyed_group : (s.destroyed_group.0 == 0) ≡ false → t.destroyed_group ≡ s.destroyed_group
   pub gone : (key : List ℕ × Kind) → is_gone s key ≡ true → is_gone t key ≡ true
   pub latch : (name : List ℕ) (call : Invocation) (round : ℕ) → Over s.latches name call round → (is_gone t (name, kind.Latch) ≡ true) ⊎ Over t.latches name call round
   pub opened : (session : ℕ) (client : ClientId) → session < i → is_open_for t.sessions session client ≡ true → is_open_for s.sessions session client ≡ true
   pub memory : (session : ℕ) (client : ClientId) (thread n : ℕ) → session < i → is_open_for t.sessions session client ≡ true → Reaches s.memory (session, thread) n → Reaches t.memory (session, thread) n
 
 pub grows_same : (i : ℕ) (s : GroupState) → Grows i s s
-grows_same i s = record { destroyed = λ h. refl; gone = λ key h. h; latch = λ name call round h. inr h; opened = λ session client l h. h; memory = λ session client thread n l o h. h }
+grows_same i s = record { destroyed_group = λ h. refl; gone = λ key h. h; latch = λ name call round h. inr h; opened = λ session client l h. h; memory = λ session client thread n l o h. h }
 
 pub grows_on : (i : ℕ) (s t u : GroupState) → Grows i s t → Grows i t u → Grows i s u
 grows_on i s t u f g = record {
-  destroyed = λ h. let e = f.destroyed h in g.destroyed (rw e h) ∙ e;
+  destroyed_group = λ h. let e = f.destroyed_group h in g.destroyed_group (rw e h) ∙ e;
   gone = λ key h. g.gone key (f.gone key h);
   latch = λ name call round h. on name call round (f.latch name call round h);
   opened = λ session client l h. f.opened session client l (g.opened session client l h);
@@ -116,17 +119,17 @@ without-latch rows gone name q call round over = by (is_at (name_cmp q) name) re
   by false e = inr (or_new-same rows (without name_cmp rows name) q call round (find-without_other name_cmp name_key rows name q e) over)
 
 grows-drop : (i : ℕ) (name : List ℕ) (which : Kind) (s : GroupState) → Grows i s (add_gone (name, which) (drop_rows name which s))
-grows-drop i name kind.Long s = record { destroyed = λ h. refl; gone = λ key h. gone-put s.gone (name, kind.Long) key h; latch = λ n call round h. inr h; opened = λ session client l h. h; memory = λ session client thread n l o h. h }
-grows-drop i name kind.Ref s = record { destroyed = λ h. refl; gone = λ key h. gone-put s.gone (name, kind.Ref) key h; latch = λ n call round h. inr h; opened = λ session client l h. h; memory = λ session client thread n l o h. h }
-grows-drop i name kind.Map s = record { destroyed = λ h. refl; gone = λ key h. gone-put s.gone (name, kind.Map) key h; latch = λ n call round h. inr h; opened = λ session client l h. h; memory = λ session client thread n l o h. h }
-grows-drop i name kind.Lock s = record { destroyed = λ h. refl; gone = λ key h. gone-put s.gone (name, kind.Lock) key h; latch = λ n call round h. inr h; opened = λ session client l h. h; memory = λ session client thread n l o h. h }
-grows-drop i name kind.Sem s = record { destroyed = λ h. refl; gone = λ key h. gone-put s.gone (name, kind.Sem) key h; latch = λ n call round h. inr h; opened = λ session client l h. h; memory = λ session client thread n l o h. h }
-grows-drop i name kind.Jsem s = record { destroyed = λ h. refl; gone = λ key h. gone-put s.gone (name, kind.Jsem) key h; latch = λ n call round h. inr h; opened = λ session client l h. h; memory = λ session client thread n l o h. h }
-grows-drop i name kind.Latch s = record { destroyed = λ h. refl; gone = λ key h. gone-put s.gone (name, kind.Latch) key h; latch = λ n call round h. without-latch s.latches s.gone name n call round h; opened = λ session client l h. h; memory = λ session client thread n l o h. h }
+grows-drop i name kind.Long s = record { destroyed_group = λ h. refl; gone = λ key h. gone-put s.gone (name, kind.Long) key h; latch = λ n call round h. inr h; opened = λ session client l h. h; memory = λ session client thread n l o h. h }
+grows-drop i name kind.Ref s = record { destroyed_group = λ h. refl; gone = λ key h. gone-put s.gone (name, kind.Ref) key h; latch = λ n call round h. inr h; opened = λ session client l h. h; memory = λ session client thread n l o h. h }
+grows-drop i name kind.Map s = record { destroyed_group = λ h. refl; gone = λ key h. gone-put s.gone (name, kind.Map) key h; latch = λ n call round h. inr h; opened = λ session client l h. h; memory = λ session client thread n l o h. h }
+grows-drop i name kind.Lock s = record { destroyed_group = λ h. refl; gone = λ key h. gone-put s.gone (name, kind.Lock) key h; latch = λ n call round h. inr h; opened = λ session client l h. h; memory = λ session client thread n l o h. h }
+grows-drop i name kind.Sem s = record { destroyed_group = λ h. refl; gone = λ key h. gone-put s.gone (name, kind.Sem) key h; latch = λ n call round h. inr h; opened = λ session client l h. h; memory = λ session client thread n l o h. h }
+grows-drop i name kind.Jsem s = record { destroyed_group = λ h. refl; gone = λ key h. gone-put s.gone (name, kind.Jsem) key h; latch = λ n call round h. inr h; opened = λ session client l h. h; memory = λ session client thread n l o h. h }
+grows-drop i name kind.Latch s = record { destroyed_group = λ h. refl; gone = λ key h. gone-put s.gone (name, kind.Latch) key h; latch = λ n call round h. without-latch s.latches s.gone name n call round h; opened = λ session client l h. h; memory = λ session client thread n l o h. h }
 
 grows-finish : (i : ℕ) (s : GroupState) (ended : List Ended) → Grows i s (finish ended s).state
 grows-finish i s ended = record {
-  destroyed = λ h. refl;
+  destroyed_group = λ h. refl;
   gone = λ key h. h;
   latch = λ name call round h. inr h;
   opened = λ session client l h. h;
@@ -135,7 +138,7 @@ grows-finish i s ended = record {
 
 grows-forget : (i : ℕ) (s : GroupState) (sessions : List ℕ) → Grows i s (forget sessions s)
 grows-forget i s sessions = record {
-  destroyed = λ h. refl;
+  destroyed_group = λ h. refl;
   gone = λ key h. h;
   latch = λ name call round h. inr h;
   opened = λ session client l h. (forget-opened s.sessions sessions session client h).1;
@@ -145,7 +148,7 @@ grows-forget i s sessions = record {
 
 grows-open : (i : ℕ) (s : GroupState) (row : SessionRow) → Grows i s (record s { sessions = put nat_cmp s.sessions i row })
 grows-open i s row = record {
-  destroyed = λ h. refl;
+  destroyed_group = λ h. refl;
   gone = λ key h. h;
   latch = λ name call round h. inr h;
   opened = λ session client l h. opens-opened s.sessions i row session client l h;
@@ -154,16 +157,16 @@ grows-open i s row = record {
 
 grows-beat : (i : ℕ) (s : GroupState) (number : ℕ) (row : SessionRow) → find nat_cmp s.sessions number ≡ Some row → Grows i s (record s { sessions = put nat_cmp s.sessions number (beaten row) })
 grows-beat i s number row is = record {
-  destroyed = λ h. refl;
+  destroyed_group = λ h. refl;
   gone = λ key h. h;
   latch = λ name call round h. inr h;
   opened = λ session client l h. beats-opened s.sessions number row is session client h;
   memory = λ session client thread n l o h. h;
 }
 
-pub grows-same_parts : (i : ℕ) (s t : GroupState) → t.destroyed ≡ s.destroyed → t.gone ≡ s.gone → t.latches ≡ s.latches → t.sessions ≡ s.sessions → t.memory ≡ s.memory → Grows i s t
+pub grows-same_parts : (i : ℕ) (s t : GroupState) → t.destroyed_group ≡ s.destroyed_group → t.gone ≡ s.gone → t.latches ≡ s.latches → t.sessions ≡ s.sessions → t.memory ≡ s.memory → Grows i s t
 grows-same_parts i s t d g l o m = record {
-  destroyed = λ h. d;
+  destroyed_group = λ h. d;
   gone = λ key h. rw g h;
   latch = λ name call round h. inr (rw l h);
   opened = λ session client x h. rw o at h;

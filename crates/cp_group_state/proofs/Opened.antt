@@ -34,7 +34,17 @@ use Rattle.cp_group_state.specs.Semaphores.{Semaphores, sem_step, SemOutcome}
 use Rattle.cp_group_state.specs.Semaphores as semaphore
 use Rattle.cp_group_state.specs.Latches.{LatchOutcome, latch_step}
 use Rattle.cp_group_state.specs.Latches as countdown
-use Rattle.cp_group_state.specs.Group.{GroupState, Change, Step, Reply, Answered, Waits, Outcome, supersede, lock_rule, on_taken, on_released, wait, sem_rule, sem_wait, on_sem, is_behind, latch_wait, on_latch, session_rule, opened, beat, outcome, rule, remembered, settle, join, perform, by_memory, by_session, session_in, call_step, is_elsewhere, apply, names_gone, object_of, add_gone, drop_rows, end_sessions}
+use Rattle.cp_group_state.specs.GroupState.{GroupState}
+use Rattle.cp_group_state.specs.Changes.{Change}
+use Rattle.cp_group_state.specs.Apply.{Applied, supersede, outcome, rule, remembered, settle, join, perform, by_memory, by_session, apply_call, is_elsewhere, apply}
+use Rattle.cp_group_state.specs.Outcomes.{Reply, Answered, Waits, Outcome, wait}
+use Rattle.cp_group_state.specs.LockRules.{lock_rule, on_taken, on_released}
+use Rattle.cp_group_state.specs.SemaphoreRules.{sem_rule, sem_wait, on_sem, is_behind}
+use Rattle.cp_group_state.specs.LatchRules.{latch_wait, on_latch}
+use Rattle.cp_group_state.specs.SessionRules.{session_rule, opened, beat}
+use Rattle.cp_group_state.specs.Protected.{session_in}
+use Rattle.cp_group_state.specs.Destroying.{names_gone, object_of, add_gone, drop_rows}
+use Rattle.cp_group_state.specs.Closing.{end_sessions}
 use Rattle.cp_group_state.proofs.Keyed.{equal_is, find-put_same, find-put_other, find-filter_kept, number_key, is_at_apart}
 use Rattle.cp_group_state.proofs.Walk.{cases, either, Closed, walk_on_latch, walk_supersede, walk_outcome, walk_close, walk_time_out, walk_end_all}
 use Rattle.cp_group_state.proofs.Grows.{same_some, forget-opened, opens-opened, beats-opened}
@@ -230,8 +240,8 @@ opened-join v u own h w there m = at (Contains-push_cases u.waiters v w there)
 
 opened-settle : (rows : List (ℕ × SessionRow)) (so : Option ℕ) (call : Invocation) (r : Reply) (c : Change) → OpenFor rows so call → IsOwnWait call so r → IsQuietReply rows c r → Opened c.state → Opened (settle so call r c).state
 opened-settle rows so call (Answered a) c o own quiet h = opened-remembered so call (Some a) c.state h
-opened-settle rows so call (Waits v) c o own quiet h = either (λ (r : Step). Opened r.state) (stands call c.state.waiters) _ _ h
-    (either (λ (r : Step). Opened r.state) (nat_lt (length c.state.waiters) most) _ _
+opened-settle rows so call (Waits v) c o own quiet h = either (λ (r : Applied). Opened r.state) (stands call c.state.waiters) _ _ h
+    (either (λ (r : Applied). Opened r.state) (nat_lt (length c.state.waiters) most) _ _
     (opened-remembered so call None (join v c.state) (opened-join v c.state (λ m. rw quiet (open-own rows so call v o own m)) h)) (opened-remembered so call (Some (answer.TableFull most)) c.state h))
 
 opened-outcome : (i : ℕ) (call : Invocation) (o : Op) (s : GroupState) → KeepsOpened i s (outcome i call o s).change
@@ -243,15 +253,15 @@ opened-perform i call o s opened_for own h = opened-settle s.sessions (session_i
 
 opened-memory : (i : ℕ) (call : Invocation) (o : Op) (row : Option MemoryRow) (s : GroupState) → OpenFor s.sessions (session_in o) call → Owns i s → Opened s → Opened (by_memory i call o row s).state
 opened-memory i call o None s opened_for own h = opened-perform i call o s opened_for own h
-opened-memory i call o (Some row) s opened_for own h = either (λ (r : Step). Opened r.state) (row.number == call.number) _ _ h (either (λ (r : Step). Opened r.state) (nat_lt call.number row.number) _ _ h (opened-perform i call o s opened_for own h))
+opened-memory i call o (Some row) s opened_for own h = either (λ (r : Applied). Opened r.state) (row.number == call.number) _ _ h (either (λ (r : Applied). Opened r.state) (nat_lt call.number row.number) _ _ h (opened-perform i call o s opened_for own h))
 
 opened-session : (i : ℕ) (call : Invocation) (o : Op) (so : Option ℕ) (s : GroupState) → session_in o ≡ so → Owns i s → Opened s → Opened (by_session i call o so s).state
 opened-session i call o None s so own h = opened-perform i call o s (subst (λ x. OpenFor s.sessions x call) (sym so) tt) own h
-opened-session i call o (Some session) s so own h = cases (λ (r : Step). Opened r.state) (is_open_for s.sessions session call.client) _ _
+opened-session i call o (Some session) s so own h = cases (λ (r : Applied). Opened r.state) (is_open_for s.sessions session call.client) _ _
     (λ e. opened-memory i call o _ s (subst (λ x. OpenFor s.sessions x call) (sym so) e) own h) (λ e. h)
 
-opened-call : (i : ℕ) (call : Invocation) (o : Op) (s : GroupState) → Owns i s → Opened s → Opened (call_step i call o s).state
-opened-call i call o s own h = either (λ (r : Step). Opened r.state) (s.destroyed.0 == 0) _ _
+opened-call : (i : ℕ) (call : Invocation) (o : Op) (s : GroupState) → Owns i s → Opened s → Opened (apply_call i call o s).state
+opened-call i call o s own h = either (λ (r : Applied). Opened r.state) (s.destroyed_group.0 == 0) _ _
     (let x = walk_supersede i (KeepsOpened i) (opened_closed i) call s own h in opened-session i call o (session_in o) (supersede call s).state refl x.0 x.1) h
 
 pub opened-supersede : (i : ℕ) (call : Invocation) (s : GroupState) → KeepsOpened i s (supersede call s)
@@ -259,11 +269,11 @@ opened-supersede i call s = walk_supersede i (KeepsOpened i) (opened_closed i) c
 
 pub opened-apply : (i : ℕ) (e : Entry) (s : GroupState) → Owns i s → Opened s → Opened (apply i e s).state
 opened-apply i entry.Empty s own h = h
-opened-apply i (entry.Call call o) s own h = either (λ (r : Step). Opened r.state) (is_elsewhere o) _ _ h (opened-call i call o s own h)
+opened-apply i (entry.Call call o) s own h = either (λ (r : Applied). Opened r.state) (is_elsewhere o) _ _ h (opened-call i call o s own h)
 opened-apply i (entry.SessionsExpired pairs) s own h = (walk_close i (KeepsOpened i) (opened_closed i) (unchanged_since s.sessions pairs) s own h).1
 opened-apply i (entry.WaitsExpired calls) s own h = (walk_time_out i (KeepsOpened i) (opened_closed i) calls s own h).1
 opened-apply i (entry.Members call plan members) s own h = h
-opened-apply i (entry.Destroy group) s own h = (walk_end_all i (KeepsOpened i) (opened_closed i) (λ w. true) (λ w. answer.GroupDestroyed group) (record s { destroyed = if s.destroyed.0 == 0 then group else s.destroyed }) own h).1
+opened-apply i (entry.Destroy group) s own h = (walk_end_all i (KeepsOpened i) (opened_closed i) (λ w. true) (λ w. answer.GroupDestroyed group) (record s { destroyed_group = if s.destroyed_group.0 == 0 then group else s.destroyed_group }) own h).1
 opened-apply i (entry.Destroyed group) s own h = h
 opened-apply i (entry.Moved group at members) s own h = h
 opened-apply i (entry.Left member) s own h = h

@@ -26,12 +26,18 @@ use Rattle.cp_group_state.specs.Locks.{LockRow, held_once}
 use Rattle.cp_group_state.specs.Semaphores.{Semaphores, SemaphoreRow, SemStep, is_held, held, set_held, take, change_total, sem_step, sem_step_on, raise_total, release_held, at_least_none, served, take_on, take_all, all_back}
 use Rattle.cp_group_state.specs.Latches.{LatchRow, LatchStep, latch_at, latch_step, next_round, counted_down, is_over, counted_calls, most_counted}
 use Rattle.cp_group_state.specs.Atomics.{AtomicStep, set_value, long_at, long_set, long_answer, ref_at, ref_set, ref_answer}
-use Rattle.cp_group_state.specs.Group.{GroupState, Change, Step, Reply, Answered, Waits, empty, finish, supersede, outcome, remembered, settle, join, perform, by_memory, by_session, session_in, call_step, is_elsewhere, apply, add_gone, drop_rows, forget, end_sessions}
+use Rattle.cp_group_state.specs.GroupState.{GroupState, empty}
+use Rattle.cp_group_state.specs.Changes.{Change, finish}
+use Rattle.cp_group_state.specs.Apply.{Applied, supersede, outcome, remembered, settle, join, perform, by_memory, by_session, apply_call, is_elsewhere, apply}
+use Rattle.cp_group_state.specs.Outcomes.{Reply, Answered, Waits}
+use Rattle.cp_group_state.specs.Protected.{session_in}
+use Rattle.cp_group_state.specs.Destroying.{add_gone, drop_rows}
+use Rattle.cp_group_state.specs.Closing.{forget, end_sessions}
 use Rattle.cp_group_state.specs.Rows.{pair_cmp}
 use Rattle.cp_ops_next.specs.declared.map_op.MapOp.{MapOp}
 use Rattle.cp_group_state.specs.Maps.{Pairs, Effect, Stays, Sets, Goes, MapStep, key_of, map_effect, map_answer, with_effect, map_step}
 use Rattle.cp_group_state.specs.Invariants.{IsRising, IsOrdered, Always}
-use Rattle.cp_group_state.specs.Group.{run}
+use Rattle.cp_group_state.specs.Apply.{run}
 use Rattle.std.proofs.lemmas.List.Elements.{All-nil, All-cons}
 use Rattle.cp_group_state.proofs.Keyed.{IsKey, number_key, name_key, object_key, holder_key, pair_key, pair_same, then_equal}
 use Rattle.cp_group_state.proofs.Rising.{rising-put, rising-without, rising-filter}
@@ -208,30 +214,30 @@ order-remembered (Some session) call a s h = with-memory s _ s.waiters (rising-p
 
 order-settle : (so : Option ℕ) (call : Invocation) (r : Reply) (c : Change) → IsOrdered c.state → IsOrdered (settle so call r c).state
 order-settle so call (Answered a) c h = order-remembered so call (Some a) c.state h
-order-settle so call (Waits v) c h = either (λ (r : Step). IsOrdered r.state) (stands call c.state.waiters) _ _ h
-    (either (λ (r : Step). IsOrdered r.state) (nat_lt (length c.state.waiters) most) _ _ (order-remembered so call None (join v c.state) (with-memory c.state c.state.memory _ h.memory h)) (order-remembered so call (Some (answer.TableFull most)) c.state h))
+order-settle so call (Waits v) c h = either (λ (r : Applied). IsOrdered r.state) (stands call c.state.waiters) _ _ h
+    (either (λ (r : Applied). IsOrdered r.state) (nat_lt (length c.state.waiters) most) _ _ (order-remembered so call None (join v c.state) (with-memory c.state c.state.memory _ h.memory h)) (order-remembered so call (Some (answer.TableFull most)) c.state h))
 
 order-perform : (i : ℕ) (call : Invocation) (o : Op) (s : GroupState) → IsOrdered s → IsOrdered (perform i call o s).state
 order-perform i call o s h = order-settle (session_in o) call (outcome i call o s).reply (outcome i call o s).change (order-outcome i call o s h)
 
 order-memory : (i : ℕ) (call : Invocation) (o : Op) (row : Option MemoryRow) (s : GroupState) → IsOrdered s → IsOrdered (by_memory i call o row s).state
 order-memory i call o None s h = order-perform i call o s h
-order-memory i call o (Some row) s h = either (λ (r : Step). IsOrdered r.state) (row.number == call.number) _ _ h (either (λ (r : Step). IsOrdered r.state) (nat_lt call.number row.number) _ _ h (order-perform i call o s h))
+order-memory i call o (Some row) s h = either (λ (r : Applied). IsOrdered r.state) (row.number == call.number) _ _ h (either (λ (r : Applied). IsOrdered r.state) (nat_lt call.number row.number) _ _ h (order-perform i call o s h))
 
 order-session : (i : ℕ) (call : Invocation) (o : Op) (so : Option ℕ) (s : GroupState) → IsOrdered s → IsOrdered (by_session i call o so s).state
 order-session i call o None s h = order-perform i call o s h
-order-session i call o (Some session) s h = either (λ (r : Step). IsOrdered r.state) (is_open_for s.sessions session call.client) _ _ (order-memory i call o _ s h) h
+order-session i call o (Some session) s h = either (λ (r : Applied). IsOrdered r.state) (is_open_for s.sessions session call.client) _ _ (order-memory i call o _ s h) h
 
-order-call : (i : ℕ) (call : Invocation) (o : Op) (s : GroupState) → IsOrdered s → IsOrdered (call_step i call o s).state
-order-call i call o s h = either (λ (r : Step). IsOrdered r.state) (s.destroyed.0 == 0) _ _ (order-session i call o (session_in o) (supersede call s).state (walk_supersede i KeepsOrder (order_closed i) call s h)) h
+order-call : (i : ℕ) (call : Invocation) (o : Op) (s : GroupState) → IsOrdered s → IsOrdered (apply_call i call o s).state
+order-call i call o s h = either (λ (r : Applied). IsOrdered r.state) (s.destroyed_group.0 == 0) _ _ (order-session i call o (session_in o) (supersede call s).state (walk_supersede i KeepsOrder (order_closed i) call s h)) h
 
 pub order-apply : (i : ℕ) (e : Entry) (s : GroupState) → IsOrdered s → IsOrdered (apply i e s).state
 order-apply i entry.Empty s h = h
-order-apply i (entry.Call call o) s h = either (λ (r : Step). IsOrdered r.state) (is_elsewhere o) _ _ h (order-call i call o s h)
+order-apply i (entry.Call call o) s h = either (λ (r : Applied). IsOrdered r.state) (is_elsewhere o) _ _ h (order-call i call o s h)
 order-apply i (entry.SessionsExpired pairs) s h = walk_close i KeepsOrder (order_closed i) (unchanged_since s.sessions pairs) s h
 order-apply i (entry.WaitsExpired calls) s h = walk_time_out i KeepsOrder (order_closed i) calls s h
 order-apply i (entry.Members call plan members) s h = h
-order-apply i (entry.Destroy group) s h = ordered-finish (record s { destroyed = if s.destroyed.0 == 0 then group else s.destroyed }) (ending (λ w. true) (λ w. answer.GroupDestroyed group) s.waiters) (record { sessions = h.sessions; locks = h.locks; semaphores = h.semaphores; holdings = h.holdings; latches = h.latches; longs = h.longs; refs = h.refs; maps = h.maps; gone = h.gone; memory = h.memory })
+order-apply i (entry.Destroy group) s h = ordered-finish (record s { destroyed_group = if s.destroyed_group.0 == 0 then group else s.destroyed_group }) (ending (λ w. true) (λ w. answer.GroupDestroyed group) s.waiters) (record { sessions = h.sessions; locks = h.locks; semaphores = h.semaphores; holdings = h.holdings; latches = h.latches; longs = h.longs; refs = h.refs; maps = h.maps; gone = h.gone; memory = h.memory })
 order-apply i (entry.Destroyed group) s h = h
 order-apply i (entry.Moved group at members) s h = h
 order-apply i (entry.Left member) s h = h

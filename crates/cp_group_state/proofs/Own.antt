@@ -41,7 +41,15 @@ use Rattle.cp_group_state.specs.Semaphores as semaphore
 use Rattle.cp_group_state.specs.Latches.{LatchRow, LatchStep, LatchOutcome, latch_at, latch_step, is_over, counted_calls, most_counted}
 use Rattle.cp_group_state.specs.Latches as countdown
 use Rattle.cp_group_state.specs.Atomics.{AtomicStep, set_value, long_step, ref_step, long_at, long_set, long_answer, ref_at, ref_set, ref_answer}
-use Rattle.cp_group_state.specs.Group.{GroupState, Outcome, Reply, Answered, Waits, serve, wait, owner_answer, on_taken, on_released, lock_rule, sem_rule, sem_wait, on_sem, is_behind, latch_wait, on_latch, session_rule, opened, beat, outcome, rule, answered, names_gone, object_of}
+use Rattle.cp_group_state.specs.GroupState.{GroupState}
+use Rattle.cp_group_state.specs.Outcomes.{Outcome, Reply, Answered, Waits, wait, answered}
+use Rattle.cp_group_state.specs.Serving.{serve}
+use Rattle.cp_group_state.specs.LockRules.{owner_answer, on_taken, on_released, lock_rule}
+use Rattle.cp_group_state.specs.SemaphoreRules.{sem_rule, sem_wait, on_sem, is_behind}
+use Rattle.cp_group_state.specs.LatchRules.{latch_wait, on_latch}
+use Rattle.cp_group_state.specs.SessionRules.{session_rule, opened, beat}
+use Rattle.cp_group_state.specs.Apply.{outcome, rule}
+use Rattle.cp_group_state.specs.Destroying.{names_gone, object_of}
 use Rattle.cp_group_state.specs.Fences.{IsHeldUnder}
 use Rattle.cp_group_state.proofs.Keyed.{find-put_same, name_key, same-thread}
 use Rattle.cp_group_state.proofs.Rising.{Rising}

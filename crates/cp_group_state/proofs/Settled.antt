@@ -13,8 +13,12 @@ use Rattle.cp_ops_next.specs.declared.op.Op.TheVariants as op
 use Rattle.cp_group_state.specs.Rows.{find, holder_cmp}
 use Rattle.cp_group_state.specs.Memory.{MemoryRow}
 use Rattle.cp_group_state.specs.Sessions.{is_open_for}
-use Rattle.cp_group_state.specs.Group.{GroupState, perform, by_memory, by_session, session_in, is_gone, give_again}
-use Rattle.cp_group_state.specs.History.{down_in, acts_once, IsOwnAnswer}
+use Rattle.cp_group_state.specs.GroupState.{GroupState}
+use Rattle.cp_group_state.specs.Apply.{perform, by_memory, by_session, give_again}
+use Rattle.cp_group_state.specs.Protected.{session_in}
+use Rattle.cp_group_state.specs.Destroying.{is_gone}
+use Rattle.cp_group_state.specs.Protected.{down_in, is_protected}
+use Rattle.cp_group_state.specs.Repeats.{IsOwnAnswer}
 use Rattle.cp_group_state.proofs.Keyed.{no_true}
 use Rattle.cp_group_state.proofs.Grows.{Reaches, Grows, Over, same_some}
 use Rattle.cp_group_state.proofs.Latches.{down-again}
@@ -29,7 +33,7 @@ SettledDown s call (Some down) = (is_gone s (down.0, kind.Latch) ≡ true) ⊎ O
 
 -- the group is destroyed, or the call's session is closed, or its memory row has its number or a greater one, or its count down is over
 pub data Settled (i : ℕ) (s : GroupState) (call : Invocation) (o : Op) : Type 0 where
-  dead : (s.destroyed.0 == 0) ≡ false → Settled i s call o
+  dead : (s.destroyed_group.0 == 0) ≡ false → Settled i s call o
   alive : SettledSession i s call (session_in o) → SettledDown s call (down_in o) → Settled i s call o
 
 pub grows-settled_session : (i : ℕ) (s t : GroupState) (call : Invocation) (so : Option ℕ) → Grows i s t → SettledSession i s call so → SettledSession i t call so
@@ -42,7 +46,7 @@ grows-settled_down i s t call (Some down) g (inl h) = inl (g.gone (down.0, kind.
 grows-settled_down i s t call (Some down) g (inr h) = g.latch down.0 call down.1 h
 
 pub grows-settled : (i : ℕ) (s t : GroupState) (call : Invocation) (o : Op) → Grows i s t → Settled i s call o → Settled i t call o
-grows-settled i s t call o g (dead h) = dead (rw (g.destroyed h) h)
+grows-settled i s t call o g (dead h) = dead (rw (g.destroyed_group h) h)
 grows-settled i s t call o g (alive a b) = alive (grows-settled_session i s t call (session_in o) g a) (grows-settled_down i s t call (down_in o) g b)
 
 later_session : (i : ℕ) (s : GroupState) (call : Invocation) (so : Option ℕ) → SettledSession i s call so → SettledSession (i + 1) s call so
@@ -162,14 +166,14 @@ again-session i s call o session so h = record {
   from = λ a e. session-from s call o session so a e;
 }
 
-acts-down : (o : Op) → acts_once o ≡ true → session_in o ≡ None → (down : List ℕ × ℕ) × (down_in o ≡ Some down)
+acts-down : (o : Op) → is_protected o ≡ true → session_in o ≡ None → (down : List ℕ × ℕ) × (down_in o ≡ Some down)
 acts-down o acts none = at (down_in o) refl (rw none at acts)
   where
     at : (d : Option (List ℕ × ℕ)) → down_in o ≡ d → is_some (down_in o) ≡ true → (down : List ℕ × ℕ) × (down_in o ≡ Some down)
     at None e h = absurd (no_true (sym h ∙ ap is_some e))
     at (Some down) e h = (down, e)
 
-pub again : (i : ℕ) (s : GroupState) (call : Invocation) (o : Op) → acts_once o ≡ true → SettledSession i s call (session_in o) → SettledDown s call (down_in o) → Again i s call o
+pub again : (i : ℕ) (s : GroupState) (call : Invocation) (o : Op) → is_protected o ≡ true → SettledSession i s call (session_in o) → SettledDown s call (down_in o) → Again i s call o
 again i s call o acts a b = at (session_in o) refl a
   where
     at : (so : Option ℕ) → session_in o ≡ so → SettledSession i s call so → Again i s call o

@@ -15,7 +15,11 @@ use Rattle.cp_group_state.specs.Rows.{find, put, name_cmp, object_cmp}
 use Rattle.cp_group_state.specs.Waiters.{Waiter, Ended, answered_by}
 use Rattle.cp_group_state.specs.Locks.{LockRow, lock_at, is_free, held_once, held_among, is_held_among}
 use Rattle.cp_group_state.specs.Semaphores.{SemaphoreRow, served}
-use Rattle.cp_group_state.specs.Group.{GroupState, Change, for_each, end_all, serve_from, serve, serve_left, left_by, hand_to, hand_over, free_locks, free_permits, end_sessions, close, concerned, supersede, time_out, is_older}
+use Rattle.cp_group_state.specs.GroupState.{GroupState}
+use Rattle.cp_group_state.specs.Changes.{Change, for_each, end_all}
+use Rattle.cp_group_state.specs.Serving.{serve_from, serve, serve_left, serve_each_left, left_by, hand_to, hand_over}
+use Rattle.cp_group_state.specs.Closing.{free_locks, free_permits, end_sessions, close, concerned}
+use Rattle.cp_group_state.specs.Apply.{supersede, time_out, is_older}
 use Rattle.cp_group_state.specs.Fences.{IsHeldUnder}
 use Rattle.cp_group_state.proofs.Keyed.{find-put_same, find-put_other, name_key, is_at_apart}
 use Rattle.cp_group_state.proofs.Rising.{Rising, rising-filter}
@@ -47,8 +51,12 @@ quiet-serve_all (key ∷ keys) s = let one = quiet-serve_from key (find object_c
 quiet-left : (c : Change) → IsQuietEnd c.ended → IsQuietEnd (serve_left c).ended
 quiet-left c h = All-append (λ (e : Ended). NoFence e.answer) c.ended (for_each serve (left_by c.ended c.state) c.state).ended h (quiet-serve_all (left_by c.ended c.state) c.state).0
 
+quiet-each : (c : Change) → IsQuietEnd c.ended → IsQuietEnd (serve_each_left c).ended
+quiet-each c h = let keys = map (λ e. (e.waiter.name, e.waiter.kind)) c.ended in
+    All-append (λ (e : Ended). NoFence e.answer) c.ended (for_each serve keys c.state).ended h (quiet-serve_all keys c.state).0
+
 pub quiet-supersede : (call : Invocation) (s : GroupState) → IsQuietEnd (supersede call s).ended
-quiet-supersede call s = quiet-left (end_all (is_older call) (λ w. answer.WaitCancelled call.number) s) (quiet-answers (λ w. answer.WaitCancelled call.number) (λ w. tt) (filter (is_older call) s.waiters))
+quiet-supersede call s = quiet-each (end_all (is_older call) (λ w. answer.WaitCancelled call.number) s) (quiet-answers (λ w. answer.WaitCancelled call.number) (λ w. tt) (filter (is_older call) s.waiters))
 
 quiet-times : (calls : List Invocation) (s : GroupState) → IsQuietEnd (for_each time_out calls s).ended
 quiet-times [] s = All-nil (λ (e : Ended). NoFence e.answer)

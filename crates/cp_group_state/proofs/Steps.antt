@@ -23,7 +23,14 @@ use Rattle.cp_group_state.specs.Waiters.{Waiter, Ended, stands}
 use Rattle.cp_group_state.specs.Memory.{MemoryRow, has_memory, remember, note, note_at, note_all}
 use Rattle.cp_group_state.specs.Sessions.{is_open_for, is_among, unchanged_since}
 use Rattle.cp_group_state.specs.Latches.{LatchRow, LatchStep, latch_at, latch_step, next_round, counted_down, is_over, counted_calls, most_counted}
-use Rattle.cp_group_state.specs.Group.{forget, end_sessions, GroupState, Change, Step, Reply, Answered, Waits, supersede, destroy_group, latch_rule, outcome, drop_rows, remembered, settle, join, perform, by_memory, by_session, session_in, call_step, is_elsewhere, apply}
+use Rattle.cp_group_state.specs.Closing.{forget, end_sessions}
+use Rattle.cp_group_state.specs.GroupState.{GroupState}
+use Rattle.cp_group_state.specs.Changes.{Change}
+use Rattle.cp_group_state.specs.Apply.{Applied, supersede, destroy_group, outcome, remembered, settle, join, perform, by_memory, by_session, apply_call, is_elsewhere, apply}
+use Rattle.cp_group_state.specs.Outcomes.{Reply, Answered, Waits}
+use Rattle.cp_group_state.specs.LatchRules.{latch_rule}
+use Rattle.cp_group_state.specs.Destroying.{drop_rows}
+use Rattle.cp_group_state.specs.Protected.{session_in}
 use Rattle.cp_group_state.proofs.Keyed.{equal_is, find-put_same, find-put_other, find-filter_kept, find-filter_gone, holder_key}
 use Rattle.cp_group_state.proofs.Walk.{cases, either, Closed, walk_supersede, walk_close, walk_time_out, walk_end_all, walk_on_latch, walk_outcome, keep_session}
 use Rattle.cp_group_state.proofs.Grows.{Grows, same_some, remember-reaches, grows_same, grows_on, grows-same_parts, grows_closed}
@@ -162,12 +169,12 @@ within-session i b call o t at = keep_session (λ u. RoundsWithin (suc b) u.latc
     (walk_outcome i (λ s c. RoundsWithin b s.latches → RoundsWithin b c.state.latches) (λ s c. RoundsWithin b s.latches → RoundsWithin (suc b) c.state.latches) (within_closed i b)
     (λ s c f g. within-more b c.state.latches (f g)) call o t (λ e name l is g. within-latch i b call name l t g) at)
 
-within-call : (i b : ℕ) (call : Invocation) (o : Op) (s : GroupState) → RoundsWithin b s.latches → RoundsWithin (suc b) (call_step i call o s).state.latches
-within-call i b call o s h = either (λ (r : Step). RoundsWithin (suc b) r.state.latches) (s.destroyed.0 == 0) _ _ (within-session i b call o (supersede call s).state (within-supersede call b s h)) (within-more b s.latches h)
+within-call : (i b : ℕ) (call : Invocation) (o : Op) (s : GroupState) → RoundsWithin b s.latches → RoundsWithin (suc b) (apply_call i call o s).state.latches
+within-call i b call o s h = either (λ (r : Applied). RoundsWithin (suc b) r.state.latches) (s.destroyed_group.0 == 0) _ _ (within-session i b call o (supersede call s).state (within-supersede call b s h)) (within-more b s.latches h)
 
 pub within-apply : (i b : ℕ) (e : Entry) (s : GroupState) → RoundsWithin b s.latches → RoundsWithin (suc b) (apply i e s).state.latches
 within-apply i b entry.Empty s h = within-more b s.latches h
-within-apply i b (entry.Call call o) s h = either (λ (r : Step). RoundsWithin (suc b) r.state.latches) (is_elsewhere o) _ _ (within-more b s.latches h) (within-call i b call o s h)
+within-apply i b (entry.Call call o) s h = either (λ (r : Applied). RoundsWithin (suc b) r.state.latches) (is_elsewhere o) _ _ (within-more b s.latches h) (within-call i b call o s h)
 within-apply i b (entry.SessionsExpired pairs) s h = within-more b _ (walk_close i (λ s c. RoundsWithin b s.latches → RoundsWithin b c.state.latches) (within_closed i b) (unchanged_since s.sessions pairs) s h)
 within-apply i b (entry.WaitsExpired calls) s h = within-more b _ (walk_time_out i (λ s c. RoundsWithin b s.latches → RoundsWithin b c.state.latches) (within_closed i b) calls s h)
 within-apply i b (entry.Members call plan members) s h = within-more b s.latches h
@@ -180,7 +187,7 @@ within-apply i b (entry.Left member) s h = within-more b s.latches h
 grows-latch : (i : ℕ) (call : Invocation) (name : List ℕ) (l : LatchOp) (s : GroupState) → RoundsWithin (2 ^ 62 - 1) s.latches → Grows i s (latch_rule call name l s).change.state
 grows-latch i call name l s few = grows_on i s (record s { latches = (latch_step s.latches name call l).after }) _
     (record {
-      destroyed = λ h. refl;
+      destroyed_group = λ h. refl;
       gone = λ key h. h;
       opened = λ session client x h. h;
       memory = λ session client thread n x y h. h;
@@ -206,7 +213,7 @@ MayTake (Some session) call s = AtMost s.memory (session, call.thread.0) call.nu
 grows-remembered : (i : ℕ) (so : Option ℕ) (call : Invocation) (a : Option Answer) (s : GroupState) → MayTake so call s → Grows i s (remembered so call a s)
 grows-remembered i None call a s may = grows_same i s
 grows-remembered i (Some session) call a s may = record {
-  destroyed = λ h. refl;
+  destroyed_group = λ h. refl;
   gone = λ key h. h;
   latch = λ name c round h. inr h;
   opened = λ n client l h. h;
@@ -219,8 +226,8 @@ may-join (Some session) call w s h = h
 
 grows-settle : (i : ℕ) (so : Option ℕ) (call : Invocation) (r : Reply) (c : Change) → MayTake so call c.state → Grows i c.state (settle so call r c).state
 grows-settle i so call (Answered a) c may = grows-remembered i so call (Some a) c.state may
-grows-settle i so call (Waits w) c may = either (λ (r : Step). Grows i c.state r.state) (stands call c.state.waiters) _ _ (grows_same i c.state)
-    (either (λ (r : Step). Grows i c.state r.state) _ _ _
+grows-settle i so call (Waits w) c may = either (λ (r : Applied). Grows i c.state r.state) (stands call c.state.waiters) _ _ (grows_same i c.state)
+    (either (λ (r : Applied). Grows i c.state r.state) _ _ _
     (grows_on i c.state (join w c.state) _ (grows-same_parts i c.state (join w c.state) refl refl refl refl refl) (grows-remembered i so call None (join w c.state) (may-join so call w c.state may)))
     (grows-remembered i so call (Some (answer.TableFull most)) c.state may))
 
@@ -243,30 +250,30 @@ grows-memory i call o session None s so is few = grows-perform i call o s few (r
   where
     none_some : (row : MemoryRow) → None ≡ Some row → ⊥
     none_some row e = cc
-grows-memory i call o session (Some row) s so is few = either (λ (r : Step). Grows i s r.state) (row.number == call.number) _ _ (grows_same i s)
-    (cases (λ (r : Step). Grows i s r.state) (nat_lt call.number row.number) _ _ (λ e. grows_same i s)
+grows-memory i call o session (Some row) s so is few = either (λ (r : Applied). Grows i s r.state) (row.number == call.number) _ _ (grows_same i s)
+    (cases (λ (r : Applied). Grows i s r.state) (nat_lt call.number row.number) _ _ (λ e. grows_same i s)
     (λ e. grows-perform i call o s few (rw so (λ other there. let same : other ≡ row = same_some (sym there ∙ is) in rw same (not_less call.number row.number e)))))
 
 grows-session : (i : ℕ) (call : Invocation) (o : Op) (so : Option ℕ) (s : GroupState) → session_in o ≡ so → RoundsWithin (2 ^ 62 - 1) s.latches → Grows i s (by_session i call o so s).state
 grows-session i call o None s is few = grows-perform i call o s few (rw is tt)
-grows-session i call o (Some session) s is few = either (λ (r : Step). Grows i s r.state) (is_open_for s.sessions session call.client) _ _
+grows-session i call o (Some session) s is few = either (λ (r : Applied). Grows i s r.state) (is_open_for s.sessions session call.client) _ _
     (grows-memory i call o session _ s is refl few) (grows_same i s)
 
 pub grows-supersede : (i : ℕ) (call : Invocation) (s : GroupState) → Grows i s (supersede call s).state
 grows-supersede i call s = walk_supersede i (λ s c. Grows i s c.state) (grows_closed i) call s
 
-grows-call : (i : ℕ) (call : Invocation) (o : Op) (s : GroupState) → RoundsWithin (2 ^ 62 - 1) s.latches → Grows i s (call_step i call o s).state
-grows-call i call o s few = either (λ (r : Step). Grows i s r.state) (s.destroyed.0 == 0) _ _
+grows-call : (i : ℕ) (call : Invocation) (o : Op) (s : GroupState) → RoundsWithin (2 ^ 62 - 1) s.latches → Grows i s (apply_call i call o s).state
+grows-call i call o s few = either (λ (r : Applied). Grows i s r.state) (s.destroyed_group.0 == 0) _ _
     (grows_on i s (supersede call s).state _ (grows-supersede i call s) (grows-session i call o (session_in o) (supersede call s).state refl (within-supersede call _ s few))) (grows_same i s)
 
 grows-destroy : (i : ℕ) (group : GroupId) (s : GroupState) → Grows i s (destroy_group group s).state
-grows-destroy i group s = grows_on i s (record s { destroyed = if s.destroyed.0 == 0 then group else s.destroyed }) _
-    (record { destroyed = λ h. rw h; gone = λ key h. h; latch = λ name c round h. inr h; opened = λ n client l h. h; memory = λ n client thread m l o h. h })
+grows-destroy i group s = grows_on i s (record s { destroyed_group = if s.destroyed_group.0 == 0 then group else s.destroyed_group }) _
+    (record { destroyed_group = λ h. rw h; gone = λ key h. h; latch = λ name c round h. inr h; opened = λ n client l h. h; memory = λ n client thread m l o h. h })
     (walk_end_all i (λ s c. Grows i s c.state) (grows_closed i) (λ w. true) (λ w. answer.GroupDestroyed group) _)
 
 pub grows-apply : (i : ℕ) (e : Entry) (s : GroupState) → RoundsWithin (2 ^ 62 - 1) s.latches → Grows i s (apply i e s).state
 grows-apply i entry.Empty s few = grows_same i s
-grows-apply i (entry.Call call o) s few = either (λ (r : Step). Grows i s r.state) (is_elsewhere o) _ _ (grows_same i s) (grows-call i call o s few)
+grows-apply i (entry.Call call o) s few = either (λ (r : Applied). Grows i s r.state) (is_elsewhere o) _ _ (grows_same i s) (grows-call i call o s few)
 grows-apply i (entry.SessionsExpired pairs) s few = walk_close i (λ s c. Grows i s c.state) (grows_closed i) (unchanged_since s.sessions pairs) s
 grows-apply i (entry.WaitsExpired calls) s few = walk_time_out i (λ s c. Grows i s c.state) (grows_closed i) calls s
 grows-apply i (entry.Members call plan members) s few = grows_same i s

@@ -17,7 +17,11 @@ use Rattle.cp_group_state.specs.Rows.{find, put, without, has_room, most, name_c
 use Rattle.cp_group_state.specs.Sessions.{unchanged_since}
 use Rattle.cp_group_state.specs.Locks.{LockRow, Acquired, Release, free_lock, held_once, or_free, lock_at, is_free, is_held_by, is_held_among, most_holds, acquired, released_by, freed, freed_all}
 use Rattle.cp_group_state.specs.Latches.{latch_step}
-use Rattle.cp_group_state.specs.Group.{GroupState, Change, Step, empty, apply, call_step, session_in, is_elsewhere, supersede, drop_rows}
+use Rattle.cp_group_state.specs.GroupState.{GroupState, empty}
+use Rattle.cp_group_state.specs.Changes.{Change}
+use Rattle.cp_group_state.specs.Apply.{Applied, apply, apply_call, is_elsewhere, supersede}
+use Rattle.cp_group_state.specs.Protected.{session_in}
+use Rattle.cp_group_state.specs.Destroying.{drop_rows}
 use Rattle.cp_group_state.specs.Invariants.{Always, IsHeldOrFree, LocksWell}
 use Rattle.cp_group_state.proofs.Walk.{cases, either, Closed, walk_supersede, walk_outcome, walk_on_latch, walk_close, walk_time_out, keep_session}
 use Rattle.cp_group_state.proofs.Ordered.{always}
@@ -108,8 +112,8 @@ locks_well i = record {
   drops = λ s c name which g h. g (drop-well name which s h);
 }
 
-locks-call : (i : ℕ) (call : Invocation) (o : Op) (s : GroupState) → LocksWell s.locks → LocksWell (call_step i call o s).state.locks
-locks-call i call o s h = either (λ (r : Step). LocksWell r.state.locks) (s.destroyed.0 == 0) _ _
+locks-call : (i : ℕ) (call : Invocation) (o : Op) (s : GroupState) → LocksWell s.locks → LocksWell (apply_call i call o s).state.locks
+locks-call i call o s h = either (λ (r : Applied). LocksWell r.state.locks) (s.destroyed_group.0 == 0) _ _
     (let first : LocksWell (supersede call s).state.locks = walk_supersede i KeepsLocks (locks_well i) call s h in
     keep_session (λ t. LocksWell t.locks) (λ t ws m g. g) i call o (session_in o) (supersede call s).state first
     (walk_outcome i KeepsLocks KeepsLocks (locks_well i) (λ s c g. g) call o (supersede call s).state
@@ -117,7 +121,7 @@ locks-call i call o s h = either (λ (r : Step). LocksWell r.state.locks) (s.des
 
 locks-apply : (i : ℕ) (e : Entry) (s : GroupState) → LocksWell s.locks → LocksWell (apply i e s).state.locks
 locks-apply i entry.Empty s h = h
-locks-apply i (entry.Call call o) s h = either (λ (r : Step). LocksWell r.state.locks) (is_elsewhere o) _ _ h (locks-call i call o s h)
+locks-apply i (entry.Call call o) s h = either (λ (r : Applied). LocksWell r.state.locks) (is_elsewhere o) _ _ h (locks-call i call o s h)
 locks-apply i (entry.SessionsExpired pairs) s h = walk_close i KeepsLocks (locks_well i) (unchanged_since s.sessions pairs) s h
 locks-apply i (entry.WaitsExpired calls) s h = walk_time_out i KeepsLocks (locks_well i) calls s h
 locks-apply i (entry.Members call plan members) s h = h

@@ -34,7 +34,17 @@ use Rattle.cp_group_state.specs.Semaphores.{sem_step, SemOutcome}
 use Rattle.cp_group_state.specs.Semaphores as semaphore
 use Rattle.cp_group_state.specs.Latches.{LatchOutcome, latch_step}
 use Rattle.cp_group_state.specs.Latches as countdown
-use Rattle.cp_group_state.specs.Group.{end_sessions, GroupState, Change, Step, Reply, Answered, Waits, Outcome, stay, finish, supersede, lock_rule, on_taken, on_released, wait, sem_rule, sem_wait, on_sem, is_behind, latch_wait, on_latch, session_rule, opened, beat, outcome, rule, remembered, settle, settle_wait, join, perform, by_memory, by_session, session_in, call_step, is_elsewhere, apply, names_gone, object_of, told, add_gone, drop_rows, forget}
+use Rattle.cp_group_state.specs.Closing.{end_sessions, forget}
+use Rattle.cp_group_state.specs.GroupState.{GroupState}
+use Rattle.cp_group_state.specs.Changes.{Change, stay, finish}
+use Rattle.cp_group_state.specs.Apply.{Applied, supersede, outcome, rule, remembered, settle, settle_wait, join, perform, by_memory, by_session, apply_call, is_elsewhere, apply, told}
+use Rattle.cp_group_state.specs.Outcomes.{Reply, Answered, Waits, Outcome, wait}
+use Rattle.cp_group_state.specs.LockRules.{lock_rule, on_taken, on_released}
+use Rattle.cp_group_state.specs.SemaphoreRules.{sem_rule, sem_wait, on_sem, is_behind}
+use Rattle.cp_group_state.specs.LatchRules.{latch_wait, on_latch}
+use Rattle.cp_group_state.specs.SessionRules.{session_rule, opened, beat}
+use Rattle.cp_group_state.specs.Protected.{session_in}
+use Rattle.cp_group_state.specs.Destroying.{names_gone, object_of, add_gone, drop_rows}
 use Rattle.cp_group_state.specs.History.{IsBelow, IsOrderlyAt}
 use Rattle.cp_group_state.proofs.Keyed.{equal_is, find-put_same, find-put_other, find-filter_kept, find-filter_gone, holder_key, same-client}
 use Rattle.cp_group_state.proofs.Walk.{All-closing, cases, either, Closed, walk_on_latch, walk_supersede, walk_outcome, walk_close, walk_time_out, walk_end_all}
@@ -324,8 +334,8 @@ own-waiter i (Some session) call w s own x m = let same : session ≡ w.session 
 
 wait-told : (i : ℕ) (past : List (Invocation × Answer)) (so : Option ℕ) (call : Invocation) (w : Waiter) (s : GroupState) → IsOwnSession i s.sessions call so → IsOwnWait call so (Waits w)
     → Told i past s → Told i (past ++ (settle_wait so call w s).answers) (settle_wait so call w s).state
-wait-told i past so call w s own x h = either (λ (r : Step). Told i (past ++ r.answers) r.state) (stands call s.waiters) _ _ (told_end i past s h)
-    (either (λ (r : Step). Told i (past ++ r.answers) r.state) (nat_lt (length s.waiters) most) _ _
+wait-told i past so call w s own x h = either (λ (r : Applied). Told i (past ++ r.answers) r.state) (stands call s.waiters) _ _ (told_end i past s h)
+    (either (λ (r : Applied). Told i (past ++ r.answers) r.state) (nat_lt (length s.waiters) most) _ _
     (told_end i past (remembered so call None (join w s)) (told-remembered i past so call None (join w s) (own-join so own) (λ a e. absurd (none_some a e)) (told-join i past w s (own-waiter i so call w s own x) h)))
     (answer-told i past so call (answer.TableFull most) (stay s) own (told_end i past s h)))
   where
@@ -357,16 +367,16 @@ told_one i past more s h = told_more i past (past ++ more) s (λ x y. Contains-a
 
 memory-told : (i : ℕ) (past : List (Invocation × Answer)) (call : Invocation) (o : Op) (row : Option MemoryRow) (s : GroupState) → RoundsWithin (2 ^ 62 - 1) s.latches → IsOwnSession i s.sessions call (session_in o) → Told i past s → Told i (past ++ (by_memory i call o row s).answers) (by_memory i call o row s).state
 memory-told i past call o None s few own h = perform-told i past call o s few own h
-memory-told i past call o (Some row) s few own h = either (λ (r : Step). Told i (past ++ r.answers) r.state) (row.number == call.number) _ _ (told_one i past _ s h)
-    (either (λ (r : Step). Told i (past ++ r.answers) r.state) (nat_lt call.number row.number) _ _ (told_one i past _ s h) (perform-told i past call o s few own h))
+memory-told i past call o (Some row) s few own h = either (λ (r : Applied). Told i (past ++ r.answers) r.state) (row.number == call.number) _ _ (told_one i past _ s h)
+    (either (λ (r : Applied). Told i (past ++ r.answers) r.state) (nat_lt call.number row.number) _ _ (told_one i past _ s h) (perform-told i past call o s few own h))
 
 pub session-told : (i : ℕ) (past : List (Invocation × Answer)) (call : Invocation) (o : Op) (so : Option ℕ) (s : GroupState) → session_in o ≡ so → IsBelow i so → RoundsWithin (2 ^ 62 - 1) s.latches → Told i past s → Told i (past ++ (by_session i call o so s).answers) (by_session i call o so s).state
 session-told i past call o None s is below few h = perform-told i past call o s few (rw is tt) h
-session-told i past call o (Some session) s is below few h = cases (λ (r : Step). Told i (past ++ r.answers) r.state) (is_open_for s.sessions session call.client) _ _
+session-told i past call o (Some session) s is below few h = cases (λ (r : Applied). Told i (past ++ r.answers) r.state) (is_open_for s.sessions session call.client) _ _
     (λ e. memory-told i past call o _ s few (rw is (below, λ client x. is_of-one client call.client _ x e)) h) (λ e. told_one i past _ s h)
 
-call-told : (i : ℕ) (past : List (Invocation × Answer)) (call : Invocation) (o : Op) (s : GroupState) → IsBelow i (session_in o) → RoundsWithin (2 ^ 62 - 1) s.latches → Told i past s → Told i (past ++ (call_step i call o s).answers) (call_step i call o s).state
-call-told i past call o s below few h = either (λ (r : Step). Told i (past ++ r.answers) r.state) (s.destroyed.0 == 0) _ _
+call-told : (i : ℕ) (past : List (Invocation × Answer)) (call : Invocation) (o : Op) (s : GroupState) → IsBelow i (session_in o) → RoundsWithin (2 ^ 62 - 1) s.latches → Told i past s → Told i (past ++ (apply_call i call o s).answers) (apply_call i call o s).state
+call-told i past call o s below few h = either (λ (r : Applied). Told i (past ++ r.answers) r.state) (s.destroyed_group.0 == 0) _ _
     (subst (λ more. Told i more (by_session i call o (session_in o) (supersede call s).state).state) (append_assoc past (told (supersede call s).ended) (by_session i call o (session_in o) (supersede call s).state).answers)
     (session-told i (past ++ told (supersede call s).ended) call o (session_in o) (supersede call s).state refl below (within-supersede call _ s few) (tells-supersede i call s past h)))
     (told_one i past _ s h)
@@ -376,7 +386,7 @@ call-told i past call o s below few h = either (λ (r : Step). Told i (past ++ r
 
 pub told-apply : (i : ℕ) (past : List (Invocation × Answer)) (e : Entry) (s : GroupState) → IsOrderlyAt i e s → RoundsWithin (2 ^ 62 - 1) s.latches → Told i past s → Told i (past ++ (apply i e s).answers) (apply i e s).state
 told-apply i past entry.Empty s ord few h = told_end i past s h
-told-apply i past (entry.Call call o) s ord few h = either (λ (r : Step). Told i (past ++ r.answers) r.state) (is_elsewhere o) _ _ (told_end i past s h) (call-told i past call o s ord.0 few h)
+told-apply i past (entry.Call call o) s ord few h = either (λ (r : Applied). Told i (past ++ r.answers) r.state) (is_elsewhere o) _ _ (told_end i past s h) (call-told i past call o s ord.0 few h)
 told-apply i past (entry.SessionsExpired pairs) s ord few h = walk_close i (Tells i) (tells_closed i) (unchanged_since s.sessions pairs) s past h
 told-apply i past (entry.WaitsExpired calls) s ord few h = walk_time_out i (Tells i) (tells_closed i) calls s past h
 told-apply i past (entry.Members call plan members) s ord few h = told_one i past _ s h

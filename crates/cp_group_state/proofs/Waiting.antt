@@ -19,7 +19,14 @@ use Rattle.cp_group_state.specs.Waiters.{Waiter, Ended, stands, same_call, still
 use Rattle.cp_group_state.specs.Memory.{MemoryRow, remember, note, note_at, note_all, has_memory}
 use Rattle.cp_group_state.specs.Sessions.{SessionRow, is_open_for, is_among, unchanged_since}
 use Rattle.cp_group_state.specs.Latches.{latch_step}
-use Rattle.cp_group_state.specs.Group.{end_sessions, GroupState, Change, Step, Reply, Answered, Waits, finish, supersede, is_older, end_all, serve, left_by, outcome, remembered, settle, join, perform, by_memory, by_session, session_in, call_step, is_elsewhere, apply, add_gone, drop_rows, forget}
+use Rattle.cp_group_state.specs.Closing.{end_sessions, forget}
+use Rattle.cp_group_state.specs.GroupState.{GroupState}
+use Rattle.cp_group_state.specs.Changes.{Change, finish, end_all}
+use Rattle.cp_group_state.specs.Apply.{Applied, supersede, is_older, outcome, remembered, settle, join, perform, by_memory, by_session, apply_call, is_elsewhere, apply}
+use Rattle.cp_group_state.specs.Outcomes.{Reply, Answered, Waits}
+use Rattle.cp_group_state.specs.Serving.{serve, left_by}
+use Rattle.cp_group_state.specs.Protected.{session_in}
+use Rattle.cp_group_state.specs.Destroying.{add_gone, drop_rows}
 use Rattle.cp_group_state.proofs.Keyed.{client-itself, same-thread, equal_is, no_true, find-put_same, find-put_other, find-filter_kept, holder_key, is_at_apart}
 use Rattle.cp_group_state.proofs.Walk.{All-closing, cases, either, Closed, walk_supersede, walk_outcome, walk_on_latch, walk_close, walk_time_out, walk_end_all, walk_each, walk_serve}
 use Rattle.cp_group_state.proofs.Grows.{Grows, same_some, opens-opened, beats-opened, forget-opened}
@@ -176,7 +183,7 @@ older-gone call s w there = at (is_older call w) refl
 
 pub none-older : (call : Invocation) (s : GroupState) → NoOlder call (supersede call s).state.waiters
 none-older call s w there = let first = end_all (is_older call) (λ w. answer.WaitCancelled call.number) s in
-    older-gone call s w (walk_each 0 (λ s c. (w : Waiter) → Contains c.state.waiters w → Contains s.waiters w) (fewer_closed 0) serve (walk_serve 0 (λ s c. (w : Waiter) → Contains c.state.waiters w → Contains s.waiters w) (fewer_closed 0)) (left_by first.ended first.state) first.state w there)
+    older-gone call s w (walk_each 0 (λ s c. (w : Waiter) → Contains c.state.waiters w → Contains s.waiters w) (fewer_closed 0) serve (walk_serve 0 (λ s c. (w : Waiter) → Contains c.state.waiters w → Contains s.waiters w) (fewer_closed 0)) (map (λ e. (e.waiter.name, e.waiter.kind)) first.ended) first.state w there)
 
 -- no waiter that has a memory row has this one
 abbrev pub ApartFrom : Option ℕ → Invocation → GroupState → Type 0
@@ -227,8 +234,8 @@ waits-joined (Some session) call v u own apart wait w there m o = at (Contains-p
 
 waits-settle : (so : Option ℕ) (call : Invocation) (r : Reply) (c : Change) → IsOwnWait call so r → ApartFrom so call c.state → Waiting c.state → Waiting (settle so call r c).state
 waits-settle so call (Answered a) c own apart wait = waits-remembered so call (Some a) c.state apart wait
-waits-settle so call (Waits v) c own apart wait = either (λ (r : Step). Waiting r.state) (stands call c.state.waiters) _ _ wait
-    (either (λ (r : Step). Waiting r.state) (nat_lt (length c.state.waiters) most) _ _ (waits-joined so call v c.state own apart wait) (waits-remembered so call (Some (answer.TableFull most)) c.state apart wait))
+waits-settle so call (Waits v) c own apart wait = either (λ (r : Applied). Waiting r.state) (stands call c.state.waiters) _ _ wait
+    (either (λ (r : Applied). Waiting r.state) (nat_lt (length c.state.waiters) most) _ _ (waits-joined so call v c.state own apart wait) (waits-remembered so call (Some (answer.TableFull most)) c.state apart wait))
 
 pub fewer-outcome : (i : ℕ) (call : Invocation) (o : Op) (s : GroupState) (w : Waiter) → Contains (outcome i call o s).change.state.waiters w → Contains s.waiters w
 fewer-outcome i call o s = walk_outcome i (λ s c. (w : Waiter) → Contains c.state.waiters w → Contains s.waiters w) (λ s c. (w : Waiter) → Contains c.state.waiters w → Contains s.waiters w) (fewer_closed i) (λ s c g. g) call o s
@@ -252,27 +259,27 @@ waits-memory : (i : ℕ) (session : ℕ) (call : Invocation) (o : Op) (row : Opt
     → RoundsWithin (2 ^ 62 - 1) s.latches → Owns i s → Waiting s → NoOlder call s.waiters → Waiting (by_memory i call o row s).state
 waits-memory i session call o None s so is opened_for few own wait none = waits-perform i call o s few own wait
     (subst (λ x. ApartFrom x call s) (sym so) (apart-thread i session call s own wait none opened_for (λ row there. absurd (none_row row (sym is ∙ there)))))
-waits-memory i session call o (Some row) s so is opened_for few own wait none = cases (λ (r : Step). Waiting r.state) (row.number == call.number) _ _ (λ e. wait)
-    (λ e. cases (λ (r : Step). Waiting r.state) (nat_lt call.number row.number) _ _ (λ l. wait)
+waits-memory i session call o (Some row) s so is opened_for few own wait none = cases (λ (r : Applied). Waiting r.state) (row.number == call.number) _ _ (λ e. wait)
+    (λ e. cases (λ (r : Applied). Waiting r.state) (nat_lt call.number row.number) _ _ (λ l. wait)
     (λ l. waits-perform i call o s few own wait (subst (λ x. ApartFrom x call s) (sym so) (apart-thread i session call s own wait none opened_for
     (λ other there. let same : other ≡ row = same_some (sym there ∙ is) in rw same (strictly row.number call.number e l))))))
 
 waits-session : (i : ℕ) (call : Invocation) (o : Op) (so : Option ℕ) (s : GroupState) → session_in o ≡ so → RoundsWithin (2 ^ 62 - 1) s.latches → Owns i s → Waiting s → NoOlder call s.waiters → Waiting (by_session i call o so s).state
 waits-session i call o None s so few own wait none = waits-perform i call o s few own wait (subst (λ x. ApartFrom x call s) (sym so) tt)
-waits-session i call o (Some session) s so few own wait none = cases (λ (r : Step). Waiting r.state) (is_open_for s.sessions session call.client) _ _
+waits-session i call o (Some session) s so few own wait none = cases (λ (r : Applied). Waiting r.state) (is_open_for s.sessions session call.client) _ _
     (λ e. waits-memory i session call o _ s so refl e few own wait none) (λ e. wait)
 
-waits-call : (i : ℕ) (call : Invocation) (o : Op) (s : GroupState) → RoundsWithin (2 ^ 62 - 1) s.latches → RoundsWithin (2 ^ 62 - 1) (supersede call s).state.latches → Owns i s → Waiting s → Waiting (call_step i call o s).state
-waits-call i call o s few few_then own wait = either (λ (r : Step). Waiting r.state) (s.destroyed.0 == 0) _ _
+waits-call : (i : ℕ) (call : Invocation) (o : Op) (s : GroupState) → RoundsWithin (2 ^ 62 - 1) s.latches → RoundsWithin (2 ^ 62 - 1) (supersede call s).state.latches → Owns i s → Waiting s → Waiting (apply_call i call o s).state
+waits-call i call o s few few_then own wait = either (λ (r : Applied). Waiting r.state) (s.destroyed_group.0 == 0) _ _
     (let x = walk_supersede i (KeepsWaits i) (waits_closed i) call s own wait in waits-session i call o (session_in o) (supersede call s).state refl few_then x.0 x.1 (none-older call s)) wait
 
 pub waits-apply : (i : ℕ) (e : Entry) (s : GroupState) → RoundsWithin (2 ^ 62 - 1) s.latches → Owns i s → Waiting s → Waiting (apply i e s).state
 waits-apply i entry.Empty s few own wait = wait
-waits-apply i (entry.Call call o) s few own wait = either (λ (r : Step). Waiting r.state) (is_elsewhere o) _ _ wait (waits-call i call o s few (within-supersede call _ s few) own wait)
+waits-apply i (entry.Call call o) s few own wait = either (λ (r : Applied). Waiting r.state) (is_elsewhere o) _ _ wait (waits-call i call o s few (within-supersede call _ s few) own wait)
 waits-apply i (entry.SessionsExpired pairs) s few own wait = (walk_close i (KeepsWaits i) (waits_closed i) (unchanged_since s.sessions pairs) s own wait).1
 waits-apply i (entry.WaitsExpired calls) s few own wait = (walk_time_out i (KeepsWaits i) (waits_closed i) calls s own wait).1
 waits-apply i (entry.Members call plan members) s few own wait = wait
-waits-apply i (entry.Destroy group) s few own wait = (walk_end_all i (KeepsWaits i) (waits_closed i) (λ w. true) (λ w. answer.GroupDestroyed group) (record s { destroyed = if s.destroyed.0 == 0 then group else s.destroyed }) own wait).1
+waits-apply i (entry.Destroy group) s few own wait = (walk_end_all i (KeepsWaits i) (waits_closed i) (λ w. true) (λ w. answer.GroupDestroyed group) (record s { destroyed_group = if s.destroyed_group.0 == 0 then group else s.destroyed_group }) own wait).1
 waits-apply i (entry.Destroyed group) s few own wait = wait
 waits-apply i (entry.Moved group at members) s few own wait = wait
 waits-apply i (entry.Left member) s few own wait = wait

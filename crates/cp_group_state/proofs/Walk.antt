@@ -37,7 +37,18 @@ use Rattle.cp_group_state.specs.Semaphores.{Semaphores, SemaphoreRow, SemOutcome
 use Rattle.cp_group_state.specs.Semaphores as semaphore
 use Rattle.cp_group_state.specs.Latches.{LatchOutcome}
 use Rattle.cp_group_state.specs.Latches as countdown
-use Rattle.cp_group_state.specs.Group.{GroupState, Change, Outcome, stay, for_each, finish, end_all, serve_from, serve, left_by, serve_left, hand_to, hand_over, free_locks, free_permits, end_sessions, close, supersede, time_out, is_older, add_gone, drop_rows, outcome, rule, lock_rule, on_taken, on_released, wait, sem_rule, sem_wait, on_sem, is_behind, session_rule, opened, beat, destroy_rule, latch_rule, on_latch, latch_wait, names_gone, object_of, Reply, Answered, Waits, Step, remembered, settle, settle_wait, join, by_memory, by_session, session_in}
+use Rattle.cp_group_state.specs.GroupState.{GroupState}
+use Rattle.cp_group_state.specs.Changes.{Change, stay, for_each, finish, end_all}
+use Rattle.cp_group_state.specs.Outcomes.{Outcome, wait, Reply, Answered, Waits}
+use Rattle.cp_group_state.specs.Serving.{serve_from, serve, left_by, serve_left, serve_each_left, hand_to, hand_over}
+use Rattle.cp_group_state.specs.Closing.{free_locks, free_permits, end_sessions, close}
+use Rattle.cp_group_state.specs.Apply.{supersede, time_out, is_older, outcome, rule, Applied, remembered, settle, settle_wait, join, by_memory, by_session}
+use Rattle.cp_group_state.specs.Destroying.{add_gone, drop_rows, destroy_rule, names_gone, object_of}
+use Rattle.cp_group_state.specs.LockRules.{lock_rule, on_taken, on_released}
+use Rattle.cp_group_state.specs.SemaphoreRules.{sem_rule, sem_wait, on_sem, is_behind}
+use Rattle.cp_group_state.specs.SessionRules.{session_rule, opened, beat}
+use Rattle.cp_group_state.specs.LatchRules.{latch_rule, on_latch, latch_wait}
+use Rattle.cp_group_state.specs.Protected.{session_in}
 
 -- both branches of an `if`, each with what it knows
 pub cases : {X : Type 0} (P : X → Type 0) (b : Bool) (x y : X) → (b ≡ true → P x) → (b ≡ false → P y) → P (if b then x else y)
@@ -99,6 +110,9 @@ module _ (i : ℕ) (R : GroupState → Change → Type 0) (k : Closed i R) where
   pub walk_serve_left : (s : GroupState) (c : Change) → R s c → R s (serve_left c)
   walk_serve_left s c r = k.joins s c (for_each serve (left_by c.ended c.state) c.state) r (walk_each serve walk_serve (left_by c.ended c.state) c.state)
 
+  pub walk_serve_each_left : (s : GroupState) (c : Change) → R s c → R s (serve_each_left c)
+  walk_serve_each_left s c r = k.joins s c (for_each serve (map (λ e. (e.waiter.name, e.waiter.kind)) c.ended) c.state) r (walk_each serve walk_serve (map (λ e. (e.waiter.name, e.waiter.kind)) c.ended) c.state)
+
   walk_hand_to : (name : List ℕ) (s : GroupState) (ws : List Waiter) → All (Contains s.waiters) ws → R s (hand_to i name (first ws) s)
   walk_hand_to name s [] all = k.stays s
   walk_hand_to name s (w ∷ ws) all = k.handed s _ name w
@@ -109,7 +123,7 @@ module _ (i : ℕ) (R : GroupState → Change → Type 0) (k : Closed i R) where
   walk_hand_over name s = walk_hand_to name s (filter (waits_on kind.Lock name) s.waiters) (All-filter (waits_on kind.Lock name) (Contains s.waiters) s.waiters (All-contains_itself s.waiters))
 
   pub walk_supersede : (call : Invocation) (s : GroupState) → R s (supersede call s)
-  walk_supersede call s = walk_serve_left s _ (walk_end_all (is_older call) (λ w. answer.WaitCancelled call.number) s)
+  walk_supersede call s = walk_serve_each_left s _ (walk_end_all (is_older call) (λ w. answer.WaitCancelled call.number) s)
 
   pub walk_time_out : (calls : List Invocation) (s : GroupState) → R s (serve_left (for_each time_out calls s))
   walk_time_out calls s = walk_serve_left s _ (walk_each time_out (λ call t. walk_end_all (λ w. same_call call w.call) (λ w. answer.TimedOut) t) calls s)
@@ -216,8 +230,8 @@ module _ (T : GroupState → Type 0) (k : (t : GroupState) (ws : List Waiter) (m
   keep_remembered (Some session) call a t h = k t t.waiters (remember t.memory session call.thread call.number a) h
 
   keep_wait : (so : Option ℕ) (call : Invocation) (w : Waiter) (t : GroupState) → T t → T (settle_wait so call w t).state
-  keep_wait so call w t h = either (λ (r : Step). T r.state) (stands call t.waiters) _ _ h
-      (either (λ (r : Step). T r.state) (nat_lt (length t.waiters) most) _ _ (keep_remembered so call None (join w t) (k t (t.waiters ++ w ∷ []) t.memory h)) (keep_remembered so call _ t h))
+  keep_wait so call w t h = either (λ (r : Applied). T r.state) (stands call t.waiters) _ _ h
+      (either (λ (r : Applied). T r.state) (nat_lt (length t.waiters) most) _ _ (keep_remembered so call None (join w t) (k t (t.waiters ++ w ∷ []) t.memory h)) (keep_remembered so call _ t h))
 
   pub keep_settle : (so : Option ℕ) (call : Invocation) (r : Reply) (c : Change) → T c.state → T (settle so call r c).state
   keep_settle so call (Answered a) c h = keep_remembered so call (Some a) c.state h
@@ -225,9 +239,9 @@ module _ (T : GroupState → Type 0) (k : (t : GroupState) (ws : List Waiter) (m
 
   keep_memory : (i : ℕ) (call : Invocation) (o : Op) (row : Option MemoryRow) (s : GroupState) → T s → T (outcome i call o s).change.state → T (by_memory i call o row s).state
   keep_memory i call o None s h g = keep_settle (session_in o) call _ _ g
-  keep_memory i call o (Some row) s h g = either (λ (r : Step). T r.state) (row.number == call.number) _ _ h
-      (either (λ (r : Step). T r.state) (nat_lt call.number row.number) _ _ h (keep_settle (session_in o) call _ _ g))
+  keep_memory i call o (Some row) s h g = either (λ (r : Applied). T r.state) (row.number == call.number) _ _ h
+      (either (λ (r : Applied). T r.state) (nat_lt call.number row.number) _ _ h (keep_settle (session_in o) call _ _ g))
 
   pub keep_session : (i : ℕ) (call : Invocation) (o : Op) (so : Option ℕ) (s : GroupState) → T s → T (outcome i call o s).change.state → T (by_session i call o so s).state
   keep_session i call o None s h g = keep_settle (session_in o) call _ _ g
-  keep_session i call o (Some session) s h g = either (λ (r : Step). T r.state) (is_open_for s.sessions session call.client) _ _ (keep_memory i call o _ s h g) h
+  keep_session i call o (Some session) s h g = either (λ (r : Applied). T r.state) (is_open_for s.sessions session call.client) _ _ (keep_memory i call o _ s h g) h

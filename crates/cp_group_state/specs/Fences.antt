@@ -5,7 +5,8 @@ use Rattle.cp_ops_next.specs.declared.answer.Answer.{Answer}
 use Rattle.cp_ops_next.specs.declared.answer.Answer.TheVariants as answer
 use Rattle.cp_ops_next.specs.declared.entry.Entry.{Entry}
 use Rattle.cp_group_state.specs.Locks.{LockRow, lock_at, is_free}
-use Rattle.cp_group_state.specs.Group.{GroupState, Step, empty, run}
+use Rattle.cp_group_state.specs.GroupState.{GroupState, empty}
+use Rattle.cp_group_state.specs.Apply.{Applied, run}
 
 -- the states after each index
 abbrev pub states : List Entry → List GroupState
@@ -27,6 +28,6 @@ IsHeldUnder locks c (answer.Fence f) = (name : List ℕ) × (is_free (lock_at lo
 IsHeldUnder locks c a = Unit {0}
 
 -- Each fence is that of a lock which the call's thread holds after the entry, or it was told to the call before.
-abbrev pub FencesStand : List (Invocation × Answer) → List Step → Type 0
+abbrev pub FencesStand : List (Invocation × Answer) → List Applied → Type 0
 FencesStand told [] = Unit {0}
 FencesStand told (x ∷ xs) = All (λ a. Contains told a ⊎ IsHeldUnder x.state.locks a.0 a.1) x.answers × FencesStand (told ++ x.answers) xs

@@ -10,7 +10,7 @@ use Rattle.cp_group_state.specs.Rows.{name_cmp, object_cmp, holding_cmp, holder_
 use Rattle.std.specs.Prelude.{true, ◌≡◌, ℕ}
 use Rattle.std.specs.Map.{values_of}
 use Rattle.cp_group_state.specs.Locks.{LockRow, is_free, free_lock}
-use Rattle.cp_group_state.specs.Group.{GroupState}
+use Rattle.cp_group_state.specs.GroupState.{GroupState}
 
 -- the keys rise
 abbrev pub IsRising : {K X : Type 0} → (K → K → Ordering) → List (K × X) → Type 0

@@ -2,8 +2,10 @@
 use Rattle.std.specs.Prelude.{List, []}
 use Rattle.cp_ops_next.specs.declared.entry.Entry.{Entry}
 use Rattle.cp_group_state.specs.Fences.{FencesRise, FencesStand}
-use Rattle.cp_group_state.specs.Group.{run, empty}
-use Rattle.cp_group_state.specs.History.{IsOrderly, ActsAtMostOnce}
+use Rattle.cp_group_state.specs.Apply.{run}
+use Rattle.cp_group_state.specs.GroupState.{empty}
+use Rattle.cp_group_state.specs.History.{IsOrderly}
+use Rattle.cp_group_state.specs.Repeats.{ActsAtMostOnce}
 use Rattle.cp_group_state.specs.Invariants.{IsOrdered, Always, LocksWell}
 
 abbrev pub CallsActAtMostOnce : Type 0

@@ -1,0 +1,28 @@
+-- The state of a group.
+use Rattle.std.specs.Prelude.{ℕ, ℤ, List, [], Option}
+use Rattle.cp_ops_next.specs.declared.kind.Kind.{Kind}
+use Rattle.cp_base.specs.declared.identifier.GroupId.{GroupId}
+use Rattle.cp_group_state.specs.Waiters.{Waiter}
+use Rattle.cp_group_state.specs.Memory.{MemoryRow}
+use Rattle.cp_group_state.specs.Sessions.{SessionRow}
+use Rattle.cp_group_state.specs.Locks.{LockRow}
+use Rattle.cp_group_state.specs.Semaphores.{Semaphores}
+use Rattle.cp_group_state.specs.Latches.{LatchRow}
+
+pub record GroupState : Type 0 where
+  -- the number of the group where it was destroyed, else 0
+  pub destroyed_group : GroupId
+  pub sessions : List (ℕ × SessionRow)
+  pub locks : List (List ℕ × LockRow)
+  pub semaphores : Semaphores
+  pub latches : List (List ℕ × LatchRow)
+  pub longs : List (List ℕ × ℤ)
+  pub refs : List (List ℕ × Option (List ℕ))
+  pub maps : List ((List ℕ × List ℕ) × List ℕ)
+  -- the destroyed names
+  pub gone : List ((List ℕ × Kind) × Unit {0})
+  pub waiters : List Waiter
+  pub memory : List ((ℕ × ℕ) × MemoryRow)
+
+abbrev pub empty : GroupState
+empty = record { destroyed_group = record { 0 = 0 }; sessions = []; locks = []; semaphores = record { rows = []; holdings = [] }; latches = []; longs = []; refs = []; maps = []; gone = []; waiters = []; memory = [] }
