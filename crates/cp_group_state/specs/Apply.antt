@@ -28,7 +28,7 @@ use Rattle.cp_group_state.specs.SessionRules.{session_rule}
 use Rattle.cp_group_state.specs.ValueRules.{on_longs, on_refs, on_maps}
 use Rattle.cp_group_state.specs.Protected.{session_in}
 
--- the rule of each op
+-- the rule of each operation
 abbrev pub rule : ℕ → Invocation → Op → GroupState → Outcome
 rule index call (op.Long name o) s = on_longs (long_step s.longs name o) s
 rule index call (op.Ref name o) s = on_refs (ref_step s.refs name o) s
@@ -43,10 +43,11 @@ rule index call (op.Group o) s = answered answer.Ok s
 rule index call (op.Member o) s = answered answer.Ok s
 rule index call (op.Change o) s = answered answer.Ok s
 
+-- an operation on a destroyed object does nothing else than to say so
 abbrev pub outcome : ℕ → Invocation → Op → GroupState → Outcome
 outcome index call o s = if names_gone s (object_of o) then answered answer.ObjectDestroyed s else rule index call o s
 
--- A step: the state after it, and the answers with the calls that they are for.
+-- the state after an entry, and the answers that it gives
 pub record Applied : Type 0 where
   pub state : GroupState
   pub answers : List (Invocation × Answer)
@@ -58,18 +59,19 @@ told ended = map (λ e. (e.waiter.call, e.answer)) ended
 abbrev pub after_change : Change → (GroupState → Applied) → Applied
 after_change c f = record { state = (f c.state).state; answers = told c.ended ++ (f c.state).answers }
 
--- a call with a session has a memory row
+-- a call that names a session is remembered by its thread's row
 abbrev pub remembered : Option ℕ → Invocation → Option Answer → GroupState → GroupState
 remembered None call answer s = s
 remembered (Some session) call answer s = record s { memory = remember s.memory session call.thread call.number answer }
 
+-- the own answer of a call comes before those of the waits that it ended
 abbrev pub settle_answer : Option ℕ → Invocation → Answer → Change → Applied
 settle_answer session call a c = record { state = remembered session call (Some a) c.state; answers = (call, a) ∷ told c.ended }
 
 abbrev pub join : Waiter → GroupState → GroupState
 join w s = record s { waiters = s.waiters ++ w ∷ [] }
 
--- A call that waits already isn't added again.
+-- A call waits behind the others, where there is room. One that waits already stays where it stands, and is not answered.
 abbrev pub settle_wait : Option ℕ → Invocation → Waiter → GroupState → Applied
 settle_wait session call w s = if stands call s.waiters
     then record { state = s; answers = [] }
@@ -81,6 +83,7 @@ abbrev pub settle : Option ℕ → Invocation → Reply → Change → Applied
 settle session call (Answered a) c = settle_answer session call a c
 settle session call (Waits w) c = after_change c (settle_wait session call w)
 
+-- what a call does that is neither repeated nor late
 abbrev pub perform : ℕ → Invocation → Op → GroupState → Applied
 perform index call o s = let result = outcome index call o s in settle (session_in o) call result.reply result.change
 
@@ -88,7 +91,7 @@ abbrev pub give_again : Invocation → Option Answer → List (Invocation × Ans
 give_again call None = []
 give_again call (Some a) = (call, a) ∷ []
 
--- a call with a session, by what its memory row holds
+-- The last call of the thread is answered as before, or still waits; an older one is late.
 abbrev pub by_memory : ℕ → Invocation → Op → Option MemoryRow → GroupState → Applied
 by_memory index call o None s = perform index call o s
 by_memory index call o (Some row) s = if row.number == call.number
@@ -97,19 +100,21 @@ by_memory index call o (Some row) s = if row.number == call.number
     then record { state = s; answers = (call, answer.Stale row.number) ∷ [] }
     else perform index call o s
 
+-- a session that is named must be open, and the caller's
 abbrev pub by_session : ℕ → Invocation → Op → Option ℕ → GroupState → Applied
 by_session index call o None s = perform index call o s
 by_session index call o (Some session) s = if is_open_for s.sessions session call.client
     then by_memory index call o (find holder_cmp s.memory (session, call.thread.0)) s
     else record { state = s; answers = (call, answer.SessionExpired session) ∷ [] }
 
--- the older waits of the caller's thread end
 abbrev pub is_older : Invocation → Waiter → Bool
 is_older call w = same_client call.client w.call.client && ((call.thread.0 == w.call.thread.0) && nat_lt w.call.number call.number)
 
+-- the older waits of the caller's thread end
 abbrev pub supersede : Invocation → GroupState → Change
 supersede call s = serve_each_left (end_all (is_older call) (λ w. answer.WaitCancelled call.number) s)
 
+-- what is asked of other groups does nothing here
 abbrev pub is_elsewhere : Op → Bool
 is_elsewhere (op.Group _) = true
 is_elsewhere (op.Member _) = true
@@ -124,10 +129,10 @@ apply_call index call o s = if s.destroyed_group.0 == 0
 abbrev pub changed : Change → Applied
 changed c = record { state = c.state; answers = told c.ended }
 
--- each of these waits ends, in this order; then the semaphores that they left are served
 abbrev pub time_out : Invocation → GroupState → Change
 time_out call s = end_all (λ w. same_call call w.call) (λ w. answer.TimedOut) s
 
+-- a group that is destroyed stays so, under its first number
 abbrev pub destroy_group : GroupId → GroupState → Change
 destroy_group group s = end_all (λ w. true) (λ w. answer.GroupDestroyed group) (record s { destroyed_group = if s.destroyed_group.0 == 0 then group else s.destroyed_group })
 
@@ -147,7 +152,7 @@ apply index (entry.Destroyed group) s = record { state = s; answers = [] }
 apply index (entry.Moved group at members) s = record { state = s; answers = [] }
 apply index (entry.Left member) s = record { state = s; answers = [] }
 
--- the steps of the entries from this index on
+-- what the entries from this index on do
 abbrev pub run : ℕ → List Entry → GroupState → List Applied
 run index [] s = []
 run index (e ∷ es) s = apply index e s ∷ run (index + 1) es (apply index e s).state

@@ -8,15 +8,15 @@ use Rattle.cp_ops_next.specs.declared.long_op.LongOp.{LongOp}
 use Rattle.cp_ops_next.specs.declared.long_op.LongOp.TheVariants as long
 use Rattle.cp_ops_next.specs.declared.ref_op.RefOp.{RefOp}
 use Rattle.cp_ops_next.specs.declared.ref_op.RefOp.TheVariants as ref
-use Rattle.cp_group_state.specs.Rows.{find, put, has_room, most, name_cmp}
+use Rattle.cp_group_state.specs.Rows.{Named, find, put, has_room, most, name_cmp}
 
 -- the rows after a call on one value, and its answer
 pub record AtomicStep (X : Type 0) : Type 0 where
-  pub after : List (List ℕ × X)
+  pub after : Named X
   pub answer : Answer
 
 -- a call that sets makes a row, where there is room
-abbrev pub set_value : {X : Type 0} → List (List ℕ × X) → List ℕ → Option X → Answer → AtomicStep X
+abbrev pub set_value : {X : Type 0} → Named X → List ℕ → Option X → Answer → AtomicStep X
 set_value rows name None a = record { after = rows; answer = a }
 set_value rows name (Some x) a = if has_room name_cmp most rows name
     then record { after = put name_cmp rows name x; answer = a }
@@ -39,10 +39,10 @@ long_answer now (long.Add x) = answer.Value (int_wrapping_add w64 now x)
 long_answer now (long.GetAdd x) = answer.Value now
 long_answer now (long.Cas old x) = answer.Bool (int_eq now old)
 
-abbrev pub long_at : List (List ℕ × ℤ) → List ℕ → ℤ
+abbrev pub long_at : Named ℤ → List ℕ → ℤ
 long_at rows name = unwrap_or (find name_cmp rows name) (pos 0)
 
-abbrev pub long_step : List (List ℕ × ℤ) → List ℕ → LongOp → AtomicStep ℤ
+abbrev pub long_step : Named ℤ → List ℕ → LongOp → AtomicStep ℤ
 long_step rows name op = set_value rows name (long_set (long_at rows name) op) (long_answer (long_at rows name) op)
 
 abbrev pub same_value : Option (List ℕ) → Option (List ℕ) → Bool
@@ -65,8 +65,8 @@ ref_answer now (ref.GetSet x) = answer.Ref now
 ref_answer now (ref.Cas old x) = answer.Bool (same_value now old)
 ref_answer now (ref.Contains x) = answer.Bool (same_value now x)
 
-abbrev pub ref_at : List (List ℕ × Option (List ℕ)) → List ℕ → Option (List ℕ)
+abbrev pub ref_at : Named (Option (List ℕ)) → List ℕ → Option (List ℕ)
 ref_at rows name = unwrap_or (find name_cmp rows name) None
 
-abbrev pub ref_step : List (List ℕ × Option (List ℕ)) → List ℕ → RefOp → AtomicStep (Option (List ℕ))
+abbrev pub ref_step : Named (Option (List ℕ)) → List ℕ → RefOp → AtomicStep (Option (List ℕ))
 ref_step rows name op = set_value rows name (ref_set (ref_at rows name) op) (ref_answer (ref_at rows name) op)

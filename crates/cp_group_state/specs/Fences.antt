@@ -4,6 +4,7 @@ use Rattle.cp_base.specs.declared.identifier.Invocation.{Invocation}
 use Rattle.cp_ops_next.specs.declared.answer.Answer.{Answer}
 use Rattle.cp_ops_next.specs.declared.answer.Answer.TheVariants as answer
 use Rattle.cp_ops_next.specs.declared.entry.Entry.{Entry}
+use Rattle.cp_group_state.specs.Rows.{Named}
 use Rattle.cp_group_state.specs.Locks.{LockRow, lock_at, is_free}
 use Rattle.cp_group_state.specs.GroupState.{GroupState, empty}
 use Rattle.cp_group_state.specs.Apply.{Applied, run}
@@ -23,7 +24,7 @@ FencesRise es = (j k : ℕ) (s t : GroupState) (name : List ℕ) → j ≤ k →
     → IsSameHold (lock_at s.locks name) (lock_at t.locks name) ⊎ ((lock_at s.locks name).fence < (lock_at t.locks name).fence)
 
 -- a fence that is answered is that of a lock which the call's thread holds
-abbrev pub IsHeldUnder : List (List ℕ × LockRow) → Invocation → Answer → Type 0
+abbrev pub IsHeldUnder : Named LockRow → Invocation → Answer → Type 0
 IsHeldUnder locks c (answer.Fence f) = (name : List ℕ) × (is_free (lock_at locks name) ≡ false) × ((lock_at locks name).holder.thread ≡ c.thread) × ((lock_at locks name).fence ≡ f)
 IsHeldUnder locks c a = Unit {0}
 

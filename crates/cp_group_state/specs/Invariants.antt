@@ -6,7 +6,7 @@ use Rattle.std.specs.Ordering.{nat_cmp}
 use Rattle.std.specs.Map.{keys_of}
 use Rattle.std.specs.List.Sorted.{IsStrictlySortedBy}
 use Rattle.cp_ops_next.specs.declared.entry.Entry.{Entry}
-use Rattle.cp_group_state.specs.Rows.{name_cmp, object_cmp, holding_cmp, holder_cmp, pair_cmp}
+use Rattle.cp_group_state.specs.Rows.{Named, name_cmp, object_cmp, holding_cmp, holder_cmp, pair_cmp}
 use Rattle.std.specs.Prelude.{true, ◌≡◌, ℕ}
 use Rattle.std.specs.Map.{values_of}
 use Rattle.cp_group_state.specs.Locks.{LockRow, is_free, free_lock}
@@ -37,5 +37,5 @@ Always P es = All P (states es)
 abbrev pub IsHeldOrFree : LockRow → Type 0
 IsHeldOrFree row = is_free row ≡ true → row ≡ free_lock
 
-abbrev pub LocksWell : List (List ℕ × LockRow) → Type 0
+abbrev pub LocksWell : Named LockRow → Type 0
 LocksWell rows = All IsHeldOrFree (values_of rows)

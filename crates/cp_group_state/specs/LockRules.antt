@@ -14,7 +14,6 @@ use Rattle.cp_group_state.specs.GroupState.{GroupState}
 use Rattle.cp_group_state.specs.Serving.{hand_over}
 use Rattle.cp_group_state.specs.Outcomes.{Outcome, answered, answered_with, wait}
 
--- locks
 abbrev pub owner_answer : LockRow → Answer
 owner_answer row = if is_free row then answer.Free else answer.Held row.holder.session row.holder.thread row.holds row.fence
 

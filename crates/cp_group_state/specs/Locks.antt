@@ -1,7 +1,7 @@
 -- Reentrant locks with fences.
 use Rattle.std.specs.Prelude.{ℕ, ◌+◌, ◌-◌, ◌^◌, Bool, not, ◌&&◌, ◌==◌, List, map, Option, Some, None, if◌then◌else◌, nat_lt}
 use Rattle.std.specs.List.{filter}
-use Rattle.cp_group_state.specs.Rows.{find, put, has_room, most, name_cmp}
+use Rattle.cp_group_state.specs.Rows.{Named, find, put, has_room, most, name_cmp}
 use Rattle.cp_group_state.specs.Sessions.{is_among}
 pub use Rattle.cp_group_state.specs.declared.rows.Holder.{Holder}
 pub use Rattle.cp_group_state.specs.declared.rows.LockRow.{LockRow}
@@ -18,7 +18,7 @@ abbrev pub or_free : Option LockRow → LockRow
 or_free None = free_lock
 or_free (Some row) = row
 
-abbrev pub lock_at : List (List ℕ × LockRow) → List ℕ → LockRow
+abbrev pub lock_at : Named LockRow → List ℕ → LockRow
 lock_at rows name = or_free (find name_cmp rows name)
 
 abbrev pub is_free : LockRow → Bool
@@ -35,24 +35,24 @@ pub data Taken : Type 0 where
   Busy : Taken
 
 pub record Acquired : Type 0 where
-  pub rows : List (List ℕ × LockRow)
+  pub rows : Named LockRow
   pub taken : Taken
 
 -- the most holds under a limit, where 0 stands for none
 abbrev pub most_holds : ℕ → ℕ
 most_holds limit = if limit == 0 then 2 ^ 31 - 1 else limit
 
-abbrev pub acquired_free : List (List ℕ × LockRow) → ℕ → List ℕ → Holder → Acquired
+abbrev pub acquired_free : Named LockRow → ℕ → List ℕ → Holder → Acquired
 acquired_free rows index name who = if has_room name_cmp most rows name
     then record { rows = put name_cmp rows name (held_once who index); taken = Fence index }
     else record { rows = rows; taken = Full }
 
-abbrev pub acquired_again : List (List ℕ × LockRow) → List ℕ → LockRow → ℕ → Acquired
+abbrev pub acquired_again : Named LockRow → List ℕ → LockRow → ℕ → Acquired
 acquired_again rows name row limit = if nat_lt row.holds (most_holds limit)
     then record { rows = put name_cmp rows name (record row { holds = row.holds + 1 }); taken = Fence row.fence }
     else record { rows = rows; taken = Limit (most_holds limit) }
 
-abbrev pub acquired : List (List ℕ × LockRow) → ℕ → List ℕ → Holder → ℕ → Acquired
+abbrev pub acquired : Named LockRow → ℕ → List ℕ → Holder → ℕ → Acquired
 acquired rows index name who limit = let row = lock_at rows name in
     if is_free row then acquired_free rows index name who
     else if is_held_by who row then acquired_again rows name row limit
@@ -64,10 +64,10 @@ pub data Released : Type 0 where
   NotOwner : Released
 
 pub record Release : Type 0 where
-  pub rows : List (List ℕ × LockRow)
+  pub rows : Named LockRow
   pub released : Released
 
-abbrev pub released_by : List (List ℕ × LockRow) → List ℕ → Holder → Release
+abbrev pub released_by : Named LockRow → List ℕ → Holder → Release
 released_by rows name who = let row = lock_at rows name in
     if is_held_by who row
     then (if row.holds == 1
@@ -79,11 +79,11 @@ abbrev pub is_held_among : List ℕ → LockRow → Bool
 is_held_among sessions row = not (is_free row) && is_among sessions row.holder.session
 
 -- the locks that these sessions hold, by name
-abbrev pub held_among : List ℕ → List (List ℕ × LockRow) → List (List ℕ)
+abbrev pub held_among : List ℕ → Named LockRow → List (List ℕ)
 held_among sessions rows = map (λ e. e.0) (filter (λ e. is_held_among sessions e.1) rows)
 
 abbrev pub freed : List ℕ → LockRow → LockRow
 freed sessions row = if is_held_among sessions row then free_lock else row
 
-abbrev pub freed_all : List ℕ → List (List ℕ × LockRow) → List (List ℕ × LockRow)
+abbrev pub freed_all : List ℕ → Named LockRow → Named LockRow
 freed_all sessions rows = map (λ e. (e.0, freed sessions e.1)) rows

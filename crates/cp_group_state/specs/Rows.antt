@@ -29,6 +29,14 @@ module _ {K X : Type 0} (cmp : K → K → Ordering) where
 abbrev pub most : ℕ
 most = 10000
 
+-- rows under names
+abbrev pub Named : Type 0 → Type 0
+Named X = List (List ℕ × X)
+
+-- an object: its name and its kind
+abbrev pub Object : Type 0
+Object = List ℕ × Kind
+
 -- names in the order of their bytes
 abbrev pub name_cmp : List ℕ → List ℕ → Ordering
 name_cmp = slice_cmp nat_cmp
@@ -43,7 +51,7 @@ kind_number kind.Latch = 6
 kind_number kind.Map = 7
 
 -- objects by name, and under one name by kind
-abbrev pub object_cmp : List ℕ × Kind → List ℕ × Kind → Ordering
+abbrev pub object_cmp : Object → Object → Ordering
 object_cmp a b = ordering_then (name_cmp a.0 b.0) (nat_cmp (kind_number a.1) (kind_number b.1))
 
 -- a session's permits of a semaphore, by session and name

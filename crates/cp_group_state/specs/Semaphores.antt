@@ -8,13 +8,13 @@ use Rattle.cp_ops_next.specs.declared.answer.Answer.TheVariants as answer
 use Rattle.cp_ops_next.specs.declared.argument.Argument.TheVariants as argument
 use Rattle.cp_ops_next.specs.declared.sem_op.SemOp.{SemOp}
 use Rattle.cp_ops_next.specs.declared.sem_op.SemOp.TheVariants as sem
-use Rattle.cp_group_state.specs.Rows.{find, put, without, has_room, most, object_cmp, holding_cmp}
+use Rattle.cp_group_state.specs.Rows.{Object, find, put, without, has_room, most, object_cmp, holding_cmp}
 use Rattle.cp_group_state.specs.Waiters.{Waiter, waits_on}
 use Rattle.cp_group_state.specs.Sessions.{is_among}
 pub use Rattle.cp_group_state.specs.declared.rows.SemaphoreRow.{SemaphoreRow}
 
 pub record Semaphores : Type 0 where
-  pub rows : List ((List ℕ × Kind) × SemaphoreRow)
+  pub rows : List (Object × SemaphoreRow)
   pub holdings : List ((ℕ × List ℕ) × ℕ)
 
 -- whether a session holds what is taken
@@ -35,20 +35,20 @@ abbrev pub set_held : List ((ℕ × List ℕ) × ℕ) → ℕ → List ℕ → �
 set_held holdings session name n = if n == 0 then without holding_cmp holdings (session, name) else put holding_cmp holdings (session, name) n
 
 -- n permits go from the semaphore to the session; where no session holds them they are gone
-abbrev pub take : List ℕ × Kind → SemaphoreRow → ℕ → ℕ → Semaphores → Semaphores
+abbrev pub take : Object → SemaphoreRow → ℕ → ℕ → Semaphores → Semaphores
 take key row session n s = if is_held key.1
     then record { rows = put object_cmp s.rows key (record row { available = row.available -ℤ pos n }); holdings = set_held s.holdings session key.0 (held s.holdings session key.0 + n) }
     else record { rows = put object_cmp s.rows key (record { total = row.total -ℤ pos n; available = row.available -ℤ pos n }); holdings = s.holdings }
 
 -- n permits come back from the session
-abbrev pub give_back : List ℕ × Kind → SemaphoreRow → ℕ → ℕ → Semaphores → Semaphores
+abbrev pub give_back : Object → SemaphoreRow → ℕ → ℕ → Semaphores → Semaphores
 give_back key row session n s = record {
   rows = put object_cmp s.rows key (record row { available = row.available +ℤ pos n });
   holdings = set_held s.holdings session key.0 (held s.holdings session key.0 - n);
 }
 
 -- the total changes by n
-abbrev pub change_total : List ℕ × Kind → SemaphoreRow → ℤ → Semaphores → Semaphores
+abbrev pub change_total : Object → SemaphoreRow → ℤ → Semaphores → Semaphores
 change_total key row n s = record { rows = put object_cmp s.rows key (record { total = row.total +ℤ n; available = row.available +ℤ n }); holdings = s.holdings }
 
 -- what a call leads to: an answer, a wait, or permits that came and an answer
@@ -66,23 +66,23 @@ abbrev pub at_least_none : ℤ → ℕ
 at_least_none (pos n) = n
 at_least_none (negsuc n) = 0
 
-abbrev pub raise_total : List ℕ × Kind → SemaphoreRow → ℕ → Semaphores → SemStep
+abbrev pub raise_total : Object → SemaphoreRow → ℕ → Semaphores → SemStep
 raise_total key row n s = if int_lt (pos (2 ^ 31 - 1)) (row.total +ℤ pos n)
     then record { after = s; outcome = Done (answer.BadArgument argument.Overflow) }
     else record { after = change_total key row (pos n) s; outcome = Served answer.Ok }
 
-abbrev pub release_held : List ℕ × Kind → SemaphoreRow → ℕ → ℕ → Semaphores → SemStep
+abbrev pub release_held : Object → SemaphoreRow → ℕ → ℕ → Semaphores → SemStep
 release_held key row session n s = if nat_lt (held s.holdings session key.0) n
     then record { after = s; outcome = Done (answer.NotHeld (held s.holdings session key.0)) }
     else record { after = give_back key row session n s; outcome = Served answer.Ok }
 
-abbrev pub init : List ℕ × Kind → ℕ → Semaphores → SemStep
+abbrev pub init : Object → ℕ → Semaphores → SemStep
 init key n s = if has_room object_cmp most s.rows key
     then record { after = record { rows = put object_cmp s.rows key (record { total = pos n; available = pos n }); holdings = s.holdings }; outcome = Done (answer.Bool true) }
     else record { after = s; outcome = Done (answer.TableFull most) }
 
 -- on a semaphore that is there
-abbrev pub sem_step_at : List ℕ × Kind → SemaphoreRow → SemOp → Semaphores → SemStep
+abbrev pub sem_step_at : Object → SemaphoreRow → SemOp → Semaphores → SemStep
 sem_step_at key row sem.Available s = record { after = s; outcome = Done (answer.Value row.available) }
 sem_step_at key row (sem.Init n) s = record { after = s; outcome = Done (answer.Bool false) }
 sem_step_at key row (sem.Acquire session n wish) s = if int_lt row.available (pos n)
@@ -96,29 +96,29 @@ sem_step_at key row (sem.Reduce session n) s = if int_lt (row.available -ℤ pos
     else record { after = change_total key row (neg_ℤ (pos n)) s; outcome = Done answer.Ok }
 
 -- on one that isn't: all but init
-abbrev pub sem_step_absent : List ℕ × Kind → SemOp → Semaphores → SemStep
+abbrev pub sem_step_absent : Object → SemOp → Semaphores → SemStep
 sem_step_absent key (sem.Init n) s = init key n s
 sem_step_absent key op s = record { after = s; outcome = Done answer.NotInitialized }
 
-abbrev pub sem_step_on : List ℕ × Kind → SemOp → Option SemaphoreRow → Semaphores → SemStep
+abbrev pub sem_step_on : Object → SemOp → Option SemaphoreRow → Semaphores → SemStep
 sem_step_on key op None s = sem_step_absent key op s
 sem_step_on key op (Some row) s = sem_step_at key row op s
 
-abbrev pub sem_step : List ℕ × Kind → SemOp → Semaphores → SemStep
+abbrev pub sem_step : Object → SemOp → Semaphores → SemStep
 sem_step key op s = sem_step_on key op (find object_cmp s.rows key) s
 
 -- the waiters that what is available serves, strictly in order of arrival
-abbrev pub served : List ℕ × Kind → ℤ → List Waiter → List Waiter
+abbrev pub served : Object → ℤ → List Waiter → List Waiter
 served key available [] = []
 served key available (w ∷ ws) = if waits_on key.1 key.0 w
     then (if int_lt available (pos w.permits) then [] else w ∷ served key (available -ℤ pos w.permits) ws)
     else served key available ws
 
-abbrev pub take_on : List ℕ × Kind → Option SemaphoreRow → Waiter → Semaphores → Semaphores
+abbrev pub take_on : Object → Option SemaphoreRow → Waiter → Semaphores → Semaphores
 take_on key None w s = s
 take_on key (Some row) w s = take key row w.session w.permits s
 
-abbrev pub take_all : List ℕ × Kind → List Waiter → Semaphores → Semaphores
+abbrev pub take_all : Object → List Waiter → Semaphores → Semaphores
 take_all key [] s = s
 take_all key (w ∷ ws) s = take_all key ws (take_on key (find object_cmp s.rows key) w s)
 
@@ -137,7 +137,7 @@ all_back sessions s = record {
 }
 
 -- a destroyed semaphore: its row and its holdings go
-abbrev pub sem_destroyed : List ℕ × Kind → Semaphores → Semaphores
+abbrev pub sem_destroyed : Object → Semaphores → Semaphores
 sem_destroyed key s = record {
   rows = without object_cmp s.rows key;
   holdings = filter (λ e. not (is_held key.1 && bytes_eq key.0 e.0.1)) s.holdings;

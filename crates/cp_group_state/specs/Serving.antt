@@ -5,7 +5,7 @@ use Rattle.std.specs.Map.{keys_of}
 use Rattle.cp_ops_next.specs.declared.kind.Kind.{Kind}
 use Rattle.cp_ops_next.specs.declared.kind.Kind.TheVariants as kind
 use Rattle.cp_ops_next.specs.declared.answer.Answer.TheVariants as answer
-use Rattle.cp_group_state.specs.Rows.{find, put, name_cmp, object_cmp}
+use Rattle.cp_group_state.specs.Rows.{Object, find, put, name_cmp, object_cmp}
 use Rattle.cp_group_state.specs.Waiters.{Waiter, Ended, waits_on, first_on, answered_by}
 use Rattle.cp_group_state.specs.Locks.{held_once}
 use Rattle.cp_group_state.specs.Semaphores.{SemaphoreRow, served, take_all}
@@ -13,16 +13,16 @@ use Rattle.cp_group_state.specs.GroupState.{GroupState}
 use Rattle.cp_group_state.specs.Changes.{Change, stay, and_then, for_each, finish}
 
 -- A semaphore gives what is available to the waiters that came first.
-abbrev pub serve_from : List ℕ × Kind → Option SemaphoreRow → GroupState → Change
+abbrev pub serve_from : Object → Option SemaphoreRow → GroupState → Change
 serve_from key None s = stay s
 serve_from key (Some row) s = finish (map (answered_by (λ w. answer.Ok)) (served key row.available s.waiters))
     (record s { semaphores = take_all key (served key row.available s.waiters) s.semaphores })
 
-abbrev pub serve : List ℕ × Kind → GroupState → Change
+abbrev pub serve : Object → GroupState → Change
 serve key s = serve_from key (find object_cmp s.semaphores.rows key) s
 
 -- the semaphores on which one of these waited, by name
-abbrev pub left_by : List Ended → GroupState → List (List ℕ × Kind)
+abbrev pub left_by : List Ended → GroupState → List Object
 left_by ended s = filter (λ key. list_any (λ e. waits_on key.1 key.0 e.waiter) ended) (keys_of s.semaphores.rows)
 
 -- the semaphores on which these waited are served in the order in which the waits ended; one that was served already serves nobody more

@@ -11,7 +11,7 @@ use Rattle.cp_group_state.specs.GroupState.{GroupState}
 use Rattle.cp_group_state.specs.Closing.{close}
 use Rattle.cp_group_state.specs.Outcomes.{Outcome, answered, answered_with}
 
--- sessions
+-- the client's open session, or a new one under the index as its number
 abbrev pub opened : ℕ → Invocation → Option (ℕ × SessionRow) → GroupState → Outcome
 opened index call (Some e) s = answered (answer.Session e.0) s
 opened index call None s = if has_room nat_cmp most s.sessions index

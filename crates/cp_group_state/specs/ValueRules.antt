@@ -5,7 +5,6 @@ use Rattle.cp_group_state.specs.Maps.{MapStep}
 use Rattle.cp_group_state.specs.GroupState.{GroupState}
 use Rattle.cp_group_state.specs.Outcomes.{Outcome, answered}
 
--- longs and references
 abbrev pub on_longs : AtomicStep ℤ → GroupState → Outcome
 on_longs step s = answered step.answer (record s { longs = step.after })
 
