@@ -17,4 +17,5 @@ pub mod Ordered
 pub mod Tables
 pub mod Stand
 pub mod Own
+pub mod Asked
 pub mod Answered

@@ -18,7 +18,7 @@ abbrev pub ListsStayOrdered : Type 0
 ListsStayOrdered = (history : List Entry) → Always IsOrdered history
 
 abbrev pub AnsweredFencesStand : Type 0
-AnsweredFencesStand = (history : List Entry) → IsOrderly history → FencesStand [] (run 1 history empty)
+AnsweredFencesStand = (history : List Entry) → IsOrderly history → FencesStand history [] (run 1 history empty)
 
 abbrev pub LocksAreHeldOrFree : Type 0
 LocksAreHeldOrFree = (history : List Entry) → Always (λ s. LocksWell s.locks) history
