@@ -170,7 +170,7 @@ module _ (all : List Entry) where
     longs = λ s c name o g. g;
     refs = λ s c name o g. g;
     maps = λ s c name o g. g;
-    opens = λ s c client g. g;
+    opens = λ s c client fresh g. g;
     beats = λ s c number row is g. g;
     drops = λ s c name which g h. g (λ w there. h w (drop-waiters name which s w there));
   }

@@ -48,7 +48,7 @@ destroyed_closed i = record {
   longs = λ s c name o g. g;
   refs = λ s c name o g. g;
   maps = λ s c name o g. g;
-  opens = λ s c client g. g;
+  opens = λ s c client fresh g. g;
   beats = λ s c number row is g. g;
   drops = λ s c name which g. g ∙ drop-destroyed name which s;
 }

@@ -53,7 +53,7 @@ fewer_closed i = record {
   longs = λ s c name o g. g;
   refs = λ s c name o g. g;
   maps = λ s c name o g. g;
-  opens = λ s c client g. g;
+  opens = λ s c client fresh g. g;
   beats = λ s c number row is g. g;
   drops = λ s c name which g w h. subst (λ ws. Contains ws w) (drop-waiters name which s) (g w h);
 }
@@ -107,7 +107,7 @@ reached_closed i = record {
   longs = λ s c name o g. g;
   refs = λ s c name o g. g;
   maps = λ s c name o g. g;
-  opens = λ s c client g. g;
+  opens = λ s c client fresh g. g;
   beats = λ s c number row is g. g;
   drops = λ s c name which g q n h. g q n (reached-drop name which s q n h);
 }

@@ -133,7 +133,7 @@ locks_closed i = record {
   longs = λ s c name o g. g;
   refs = λ s c name o g. g;
   maps = λ s c name o g. g;
-  opens = λ s c client g. g;
+  opens = λ s c client fresh g. g;
   beats = λ s c number row is g. g;
   drops = λ s c name which g. locks-on i s.locks _ c.state.locks (locks-drop i name which s) g;
 }

@@ -76,7 +76,7 @@ grows_on i s t u f g = record {
     on name call round (inl h) = inl (g.gone (name, kind.Latch) h)
     on name call round (inr h) = g.latch name call round h
 
-is_of-same : (client : ClientId) (a b : Option SessionRow) → a ≡ b → is_of client a ≡ true → is_of client b ≡ true
+pub is_of-same : (client : ClientId) (a b : Option SessionRow) → a ≡ b → is_of client a ≡ true → is_of client b ≡ true
 is_of-same client a b e h = rw (← e) h
 
 pub opens-opened : (rows : List (ℕ × SessionRow)) (i : ℕ) (row : SessionRow) (session : ℕ) (client : ClientId) → session < i → is_open_for (put nat_cmp rows i row) session client ≡ true → is_open_for rows session client ≡ true
@@ -189,7 +189,7 @@ grows_closed i = record {
   longs = λ s c name o g. grows_on i s _ c.state (grows-same_parts i s _ refl refl refl refl refl) g;
   refs = λ s c name o g. grows_on i s _ c.state (grows-same_parts i s _ refl refl refl refl refl) g;
   maps = λ s c name o g. grows_on i s _ c.state (grows-same_parts i s _ refl refl refl refl refl) g;
-  opens = λ s c client g. grows_on i s _ c.state (grows-open i s (record { client = client; version = 0 })) g;
+  opens = λ s c client fresh g. grows_on i s _ c.state (grows-open i s (record { client = client; version = 0 })) g;
   beats = λ s c number row is g. grows_on i s _ c.state (grows-beat i s number row is) g;
   drops = λ s c name which g. grows_on i s _ c.state (grows-drop i name which s) g;
 }

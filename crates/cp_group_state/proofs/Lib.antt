@@ -19,3 +19,4 @@ pub mod Stand
 pub mod Own
 pub mod Asked
 pub mod Answered
+pub mod Single

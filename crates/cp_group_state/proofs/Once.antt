@@ -50,7 +50,7 @@ and_true : (a b : Bool) → (a && b) ≡ true → (a ≡ true) × (b ≡ true)
 and_true true b h = (refl, h)
 and_true false b h = absurd (no_true (sym h))
 
-same-call : (a b : Invocation) → same_call a b ≡ true → a ≡ b
+pub same-call : (a b : Invocation) → same_call a b ≡ true → a ≡ b
 same-call a b h = let x = and_true (same_client a.client b.client) _ h in let y = and_true (a.thread.0 == b.thread.0) (a.number == b.number) x.1 in
     let c = same-client a.client b.client x.0 in let t = same-thread a.thread b.thread (test_same a.thread.0 b.thread.0 y.0) in let n = test_same a.number b.number y.1 in
     λ j. record { client = c j; thread = t j; number = n j }

@@ -206,7 +206,7 @@ opened_closed i = record {
   longs = λ s c name o g. g;
   refs = λ s c name o g. g;
   maps = λ s c name o g. g;
-  opens = λ s c client g own h. let row : SessionRow = record { client = client; version = 0 } in
+  opens = λ s c client fresh g own h. let row : SessionRow = record { client = client; version = 0 } in
       g (owns-of i s (record s { sessions = put nat_cmp s.sessions i row }) (λ w there. there) (λ session other l o. opens-opened s.sessions i row session other l o) own)
       (λ w there m. put-opened s.sessions i row w.session w.call.client (own w there m).0 (h w there m));
   beats = λ s c number row is g own h. g (owns-of i s (record s { sessions = put nat_cmp s.sessions number (beaten row) }) (λ w there. there) (λ session client l o. beats-opened s.sessions number row is session client o) own)

@@ -199,7 +199,7 @@ order_closed i = record {
   longs = λ s c name o g h. g (record { sessions = h.sessions; locks = h.locks; semaphores = h.semaphores; holdings = h.holdings; latches = h.latches; longs = value-rises s.longs name (long_set (long_at s.longs name) o) (long_answer (long_at s.longs name) o) h.longs; refs = h.refs; maps = h.maps; gone = h.gone; memory = h.memory });
   refs = λ s c name o g h. g (record { sessions = h.sessions; locks = h.locks; semaphores = h.semaphores; holdings = h.holdings; latches = h.latches; longs = h.longs; refs = value-rises s.refs name (ref_set (ref_at s.refs name) o) (ref_answer (ref_at s.refs name) o) h.refs; maps = h.maps; gone = h.gone; memory = h.memory });
   maps = λ s c name o g h. g (record { sessions = h.sessions; locks = h.locks; semaphores = h.semaphores; holdings = h.holdings; latches = h.latches; longs = h.longs; refs = h.refs; maps = map-rises s.maps name o h.maps; gone = h.gone; memory = h.memory });
-  opens = λ s c client g h. g (with-sessions s _ (rising-put nat_cmp number_key nat_cmp_total s.sessions i (record { client = client; version = 0 }) h.sessions) h);
+  opens = λ s c client fresh g h. g (with-sessions s _ (rising-put nat_cmp number_key nat_cmp_total s.sessions i (record { client = client; version = 0 }) h.sessions) h);
   beats = λ s c number row is g h. g (with-sessions s _ (rising-put nat_cmp number_key nat_cmp_total s.sessions number (beaten row) h.sessions) h);
   drops = λ s c name which g h. g (ordered-drop name which s h);
 }

@@ -89,7 +89,7 @@ most_closed i = record {
   longs = λ s c name o g. g;
   refs = λ s c name o g. g;
   maps = λ s c name o g. g;
-  opens = λ s c client g. g;
+  opens = λ s c client fresh g. g;
   beats = λ s c number row is g. g;
   drops = λ s c name which g q n h. g q n (subst (λ m. AtMost m q n) (sym (drop-memory name which s)) h);
 }
@@ -151,7 +151,7 @@ within_closed i b = record {
   longs = λ s c name o g. g;
   refs = λ s c name o g. g;
   maps = λ s c name o g. g;
-  opens = λ s c client g. g;
+  opens = λ s c client fresh g. g;
   beats = λ s c number row is g. g;
   drops = λ s c name which g h. g (within-drop b name which s h);
 }

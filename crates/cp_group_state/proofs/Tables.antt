@@ -107,7 +107,7 @@ locks_well i = record {
   longs = λ s c name o g. g;
   refs = λ s c name o g. g;
   maps = λ s c name o g. g;
-  opens = λ s c client g. g;
+  opens = λ s c client fresh g. g;
   beats = λ s c number row is g. g;
   drops = λ s c name which g h. g (drop-well name which s h);
 }

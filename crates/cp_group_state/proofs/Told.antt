@@ -174,7 +174,7 @@ tells_closed i = record {
   longs = λ s c name o g past h. g past (record { waiters = h.waiters; memory = h.memory });
   refs = λ s c name o g past h. g past (record { waiters = h.waiters; memory = h.memory });
   maps = λ s c name o g past h. g past (record { waiters = h.waiters; memory = h.memory });
-  opens = λ s c client g past h. g past (told-sessions i past s _ (λ session other l o. opens-opened s.sessions i (record { client = client; version = 0 }) session other l o) h);
+  opens = λ s c client fresh g past h. g past (told-sessions i past s _ (λ session other l o. opens-opened s.sessions i (record { client = client; version = 0 }) session other l o) h);
   beats = λ s c number row is g past h. g past (told-sessions i past s _ (λ session client l o. beats-opened s.sessions number row is session client o) h);
   drops = λ s c name which g past h. g past (told-drop i past name which s h);
 }

@@ -145,7 +145,7 @@ waits_closed i = record {
   longs = λ s c name o g. g;
   refs = λ s c name o g. g;
   maps = λ s c name o g. g;
-  opens = λ s c client g own wait. let x = waits-sessions i s _ (λ session other l o. opens-opened s.sessions i (record { client = client; version = 0 }) session other l o) own wait in g x.0 x.1;
+  opens = λ s c client fresh g own wait. let x = waits-sessions i s _ (λ session other l o. opens-opened s.sessions i (record { client = client; version = 0 }) session other l o) own wait in g x.0 x.1;
   beats = λ s c number row is g own wait. let x = waits-sessions i s _ (λ session client l o. beats-opened s.sessions number row is session client o) own wait in g x.0 x.1;
   drops = λ s c name which g own wait. let x = waits-drop i name which s own wait in g x.0 x.1;
 }

@@ -86,7 +86,7 @@ pub record Closed (i : ℕ) (R : GroupState → Change → Type 0) : Type 0 wher
   pub longs : (s : GroupState) (c : Change) (name : List ℕ) (o : LongOp) → R (record s { longs = (long_step s.longs name o).after }) c → R s c
   pub refs : (s : GroupState) (c : Change) (name : List ℕ) (o : RefOp) → R (record s { refs = (ref_step s.refs name o).after }) c → R s c
   pub maps : (s : GroupState) (c : Change) (name : List ℕ) (o : MapOp) → R (record s { maps = (map_step s.maps name o).after }) c → R s c
-  pub opens : (s : GroupState) (c : Change) (client : ClientId) → R (record s { sessions = put nat_cmp s.sessions i (record { client = client; version = 0 }) }) c → R s c
+  pub opens : (s : GroupState) (c : Change) (client : ClientId) → session_of s.sessions client ≡ None → R (record s { sessions = put nat_cmp s.sessions i (record { client = client; version = 0 }) }) c → R s c
   pub beats : (s : GroupState) (c : Change) (number : ℕ) (row : SessionRow) → find nat_cmp s.sessions number ≡ Some row → R (record s { sessions = put nat_cmp s.sessions number (beaten row) }) c → R s c
   pub drops : (s : GroupState) (c : Change) (name : List ℕ) (which : Kind) → R (add_gone (name, which) (drop_rows name which s)) c → R s c
 
@@ -175,16 +175,16 @@ module _ (i : ℕ) (R : GroupState → Change → Type 0) (k : Closed i R) where
   walk_sem call key o s = either (λ (r : Outcome). R s r.change) (is_behind key o s) _ _ (walk_sem_wait call key o s)
       (walk_on_sem key call o (sem_step key o s.semaphores).outcome s)
 
-  walk_opened : (call : Invocation) (o : Option (ℕ × SessionRow)) (s : GroupState) → R s (opened i call o s).change
-  walk_opened call (Some e) s = k.stays s
-  walk_opened call None s = either (λ (r : Outcome). R s r.change) (has_room nat_cmp most s.sessions i) _ _ (k.opens s _ call.client (k.stays _)) (k.stays s)
+  walk_opened : (call : Invocation) (o : Option (ℕ × SessionRow)) (s : GroupState) → session_of s.sessions call.client ≡ o → R s (opened i call o s).change
+  walk_opened call (Some e) s is = k.stays s
+  walk_opened call None s is = either (λ (r : Outcome). R s r.change) (has_room nat_cmp most s.sessions i) _ _ (k.opens s _ call.client is (k.stays _)) (k.stays s)
 
   walk_beat : (number : ℕ) (s : GroupState) (o : Option SessionRow) → find nat_cmp s.sessions number ≡ o → R s (beat number o s).change
   walk_beat number s None is = k.stays s
   walk_beat number s (Some row) is = k.beats s _ number row is (k.stays _)
 
   walk_session : (call : Invocation) (o : SessionOp) (s : GroupState) → R s (session_rule i call o s).change
-  walk_session call session.Open s = walk_opened call (session_of s.sessions call.client) s
+  walk_session call session.Open s = walk_opened call (session_of s.sessions call.client) s refl
   walk_session call (session.Beat number) s = walk_beat number s (find nat_cmp s.sessions number) refl
   walk_session call (session.Close number) s = either (λ (r : Outcome). R s r.change) (is_some (find nat_cmp s.sessions number)) _ _ (walk_close (number ∷ []) s) (k.stays s)
 

@@ -1,5 +1,5 @@
 -- What holds of the state of a group after every history.
-use Rattle.std.specs.Prelude.{List, All}
+use Rattle.std.specs.Prelude.{List, [], ◌∷◌, All, false}
 use Rattle.cp_group_state.specs.Fences.{states}
 use Rattle.std.specs.declared.cmp.Ordering.{Ordering}
 use Rattle.std.specs.Ordering.{nat_cmp}
@@ -9,6 +9,9 @@ use Rattle.cp_ops_next.specs.declared.entry.Entry.{Entry}
 use Rattle.cp_group_state.specs.Rows.{Named, name_cmp, object_cmp, holding_cmp, holder_cmp, pair_cmp}
 use Rattle.std.specs.Prelude.{true, ◌≡◌, ℕ}
 use Rattle.std.specs.Map.{values_of}
+use Rattle.cp_base.specs.declared.identifier.ClientId.{ClientId}
+use Rattle.cp_group_state.specs.Waiters.{Waiter, stands}
+use Rattle.cp_group_state.specs.Sessions.{SessionRow, is_open_for}
 use Rattle.cp_group_state.specs.Locks.{LockRow, is_free, free_lock}
 use Rattle.cp_group_state.specs.GroupState.{GroupState}
 
@@ -39,3 +42,12 @@ IsHeldOrFree row = is_free row ≡ true → row ≡ free_lock
 
 abbrev pub LocksWell : Named LockRow → Type 0
 LocksWell rows = All IsHeldOrFree (values_of rows)
+
+-- no client has two open sessions
+abbrev pub OneSession : List (ℕ × SessionRow) → Type 0
+OneSession rows = (a b : ℕ) (client : ClientId) → is_open_for rows a client ≡ true → is_open_for rows b client ≡ true → a ≡ b
+
+-- no two waiters are of one call
+abbrev pub CallsDiffer : List Waiter → Type 0
+CallsDiffer [] = Unit {0}
+CallsDiffer (w ∷ ws) = (stands w.call ws ≡ false) × CallsDiffer ws

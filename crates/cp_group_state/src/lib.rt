@@ -2,7 +2,7 @@
 //! history. No code: the functions below state laws.
 #![tactic(auto)]
 
-ghost use Rattle.cp_group_state.specs.Laws.{CallsActAtMostOnce, FencesAlwaysRise, ListsStayOrdered, AnsweredFencesStand, LocksAreHeldOrFree};
+ghost use Rattle.cp_group_state.specs.Laws.{CallsActAtMostOnce, FencesAlwaysRise, ListsStayOrdered, AnsweredFencesStand, LocksAreHeldOrFree, ClientsHaveOneSession, CallsWaitOnce};
 
 mod rows;
 
@@ -32,4 +32,14 @@ pub fn answered_fences_stand()
 /// Without holds every number in a lock's row is 0.
 pub fn locks_are_held_or_free()
     ensures { LocksAreHeldOrFree }
+{}
+
+/// No client has two open sessions.
+pub fn clients_have_one_session()
+    ensures { ClientsHaveOneSession }
+{}
+
+/// No two waiters are of one call.
+pub fn calls_wait_once()
+    ensures { CallsWaitOnce }
 {}
