@@ -1,5 +1,5 @@
 -- Each waiter waits for the object that its call names, in the session that its call names.
-use Rattle.std.proofs.Common.{is_some, ◌≡◌, ℕ, ◌⊎◌, inl, inr, Bool, true, false, ◌&&◌, List, [], ◌∷◌, ◌++◌, Some, None, Option, refl, ap, sym, ◌∙◌, subst, if◌then◌else◌}
+use Rattle.std.proofs.Common.{is_some, ◌≡◌, ℕ, ◌⊎◌, inl, inr, Bool, true, false, ◌&&◌, List, [], Some, None, Option, refl, sym, ◌∙◌, subst, if◌then◌else◌}
 use Rattle.std.specs.Prelude.{◌==◌, nat_lt, All, Contains, length, bytes_eq}
 use Rattle.std.specs.Ordering.{nat_cmp}
 use Rattle.std.proofs.lemmas.List.Elements.{All-nil, All-append, All-weaker, Contains-push_cases}
@@ -26,7 +26,7 @@ use Rattle.cp_ops_next.specs.declared.op.Op.TheVariants as op
 use Rattle.cp_ops_next.specs.declared.entry.Entry.{Entry}
 use Rattle.cp_ops_next.specs.declared.entry.Entry.TheVariants as entry
 use Rattle.cp_group_state.specs.Rows.{Object, find, has_room, most, object_cmp, kind_number}
-use Rattle.cp_group_state.specs.Waiters.{Waiter, Ended, stands, waits_on}
+use Rattle.cp_group_state.specs.Waiters.{Waiter, Ended, stands}
 use Rattle.cp_group_state.specs.Memory.{MemoryRow, has_memory}
 use Rattle.cp_group_state.specs.Sessions.{SessionRow, session_of, unchanged_since, is_open_for}
 use Rattle.cp_group_state.specs.Locks.{LockRow, Taken, Fence, Limit, Full, Busy, Released, Freed, Kept, NotOwner}
@@ -45,12 +45,11 @@ use Rattle.cp_group_state.specs.Destroying.{object_of, names_gone, add_gone, dro
 use Rattle.cp_group_state.specs.Closing.{end_sessions}
 use Rattle.cp_group_state.specs.Protected.{session_in}
 use Rattle.cp_group_state.specs.Fences.{IsHeldUnder}
-use Rattle.cp_group_state.specs.Apply.{Applied, apply, apply_call, by_session, by_memory, perform, settle, settle_wait, remembered, join, is_elsewhere, supersede, outcome, rule}
+use Rattle.cp_group_state.specs.Apply.{Applied, apply, apply_call, by_session, by_memory, perform, settle, remembered, join, is_elsewhere, supersede, outcome, rule}
 use Rattle.cp_group_state.proofs.Keyed.{same_kind, no_true}
-use Rattle.cp_group_state.proofs.Walk.{All-closing, cases, either, Closed, walk_supersede, walk_outcome, walk_on_latch, walk_close, walk_time_out, walk_end_all}
+use Rattle.cp_group_state.proofs.Walk.{All-closing, either, Closed, walk_supersede, walk_outcome, walk_on_latch, walk_close, walk_time_out, walk_end_all}
 use Rattle.cp_group_state.proofs.Established.{fewer_closed}
-use Rattle.cp_group_state.proofs.Told.{IsOwnWait, memory_of, memory-session, own-outcome}
-use Rattle.cp_group_state.proofs.Waiting.{fewer-outcome}
+use Rattle.cp_group_state.proofs.Told.{IsOwnWait, memory_of, own-outcome}
 use Rattle.cp_group_state.proofs.Stand.{IsGiven}
 
 -- A call that waits has the object that it names on its waiter.

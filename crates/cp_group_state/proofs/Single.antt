@@ -1,5 +1,5 @@
 -- A client has one session, and a call waits once.
-use Rattle.std.proofs.Common.{◌≡◌, ℕ, Bool, true, false, ◌||◌, List, [], ◌∷◌, ◌++◌, map, Some, None, Option, refl, sym, ◌∙◌, subst, if◌then◌else◌, cond}
+use Rattle.std.proofs.Common.{◌≡◌, ℕ, Bool, true, false, ◌||◌, List, [], ◌∷◌, ◌++◌, Some, None, Option, refl, sym, ◌∙◌, subst, if◌then◌else◌, cond}
 use Rattle.std.specs.Prelude.{◌==◌, nat_lt, length}
 use Rattle.std.specs.List.{filter}
 use Rattle.std.specs.Ordering.{nat_cmp}
@@ -14,7 +14,7 @@ use Rattle.cp_ops_next.specs.declared.op.Op.{Op}
 use Rattle.cp_ops_next.specs.declared.entry.Entry.{Entry}
 use Rattle.cp_ops_next.specs.declared.entry.Entry.TheVariants as entry
 use Rattle.cp_group_state.specs.Rows.{find, put, most}
-use Rattle.cp_group_state.specs.Waiters.{Waiter, Ended, first, same_client, same_call, stands}
+use Rattle.cp_group_state.specs.Waiters.{Waiter, first, same_client, same_call, stands}
 use Rattle.cp_group_state.specs.Memory.{MemoryRow}
 use Rattle.cp_group_state.specs.Sessions.{SessionRow, is_of, is_open_for, session_of, unchanged_since}
 use Rattle.cp_group_state.specs.Latches.{latch_step}
@@ -26,7 +26,7 @@ use Rattle.cp_group_state.specs.Protected.{session_in}
 use Rattle.cp_group_state.specs.Apply.{Applied, apply, apply_call, by_session, by_memory, perform, settle, remembered, join, is_elsewhere, supersede, outcome}
 use Rattle.cp_group_state.specs.Invariants.{Always, OneSession, CallsDiffer}
 use Rattle.cp_group_state.proofs.Keyed.{no_true, equal_is, find-put_same, find-put_other, number_key, same-client}
-use Rattle.cp_group_state.proofs.Walk.{cases, either, Closed, walk_supersede, walk_outcome, walk_on_latch, walk_close, walk_time_out, walk_end_all, keep_session}
+use Rattle.cp_group_state.proofs.Walk.{cases, either, Closed, walk_supersede, walk_outcome, walk_on_latch, walk_close, walk_time_out, keep_session}
 use Rattle.cp_group_state.proofs.Grows.{is_of-same, beats-opened, forget-opened}
 use Rattle.cp_group_state.proofs.Latches.{same_call_itself}
 use Rattle.cp_group_state.proofs.Told.{IsOwnWait, own-outcome}

@@ -24,7 +24,7 @@ use Rattle.cp_group_state.specs.GroupState.{GroupState}
 use Rattle.cp_group_state.specs.Changes.{Change, finish, end_all}
 use Rattle.cp_group_state.specs.Apply.{Applied, supersede, is_older, outcome, remembered, settle, join, perform, by_memory, by_session, apply_call, is_elsewhere, apply}
 use Rattle.cp_group_state.specs.Outcomes.{Reply, Answered, Waits}
-use Rattle.cp_group_state.specs.Serving.{serve, left_by}
+use Rattle.cp_group_state.specs.Serving.{serve}
 use Rattle.cp_group_state.specs.Protected.{session_in}
 use Rattle.cp_group_state.specs.Destroying.{add_gone, drop_rows}
 use Rattle.cp_group_state.proofs.Keyed.{client-itself, same-thread, equal_is, no_true, find-put_same, find-put_other, find-filter_kept, holder_key, is_at_apart}

@@ -2,13 +2,12 @@
 use Rattle.std.specs.Prelude.{ℕ, Bool, not, ◌&&◌, ◌||◌, List, bytes_eq}
 use Rattle.std.specs.List.{filter, list_any}
 use Rattle.std.specs.Map.{keys_of}
-use Rattle.cp_ops_next.specs.declared.kind.Kind.{Kind}
 use Rattle.cp_ops_next.specs.declared.answer.Answer.TheVariants as answer
 use Rattle.cp_group_state.specs.Rows.{Object}
 use Rattle.cp_group_state.specs.Waiters.{Ended, waits_on}
 use Rattle.cp_group_state.specs.Sessions.{is_among}
 use Rattle.cp_group_state.specs.Locks.{held_among, freed_all}
-use Rattle.cp_group_state.specs.Semaphores.{is_held, served, all_back}
+use Rattle.cp_group_state.specs.Semaphores.{is_held, all_back}
 use Rattle.cp_group_state.specs.GroupState.{GroupState}
 use Rattle.cp_group_state.specs.Changes.{Change, and_then, for_each, end_all}
 use Rattle.cp_group_state.specs.Serving.{serve, hand_over}

@@ -6,7 +6,6 @@ use Rattle.cp_ops_next.specs.declared.op.Op.{Op}
 use Rattle.cp_ops_next.specs.declared.entry.Entry.TheVariants as entry
 use Rattle.cp_ops_next.specs.declared.answer.Answer.{Answer}
 use Rattle.cp_ops_next.specs.declared.answer.Answer.TheVariants as answer
-use Rattle.cp_ops_next.specs.declared.entry.Entry.{Entry}
 use Rattle.cp_group_state.specs.Rows.{Named}
 use Rattle.cp_group_state.specs.Locks.{LockRow, lock_at, is_free}
 use Rattle.cp_group_state.specs.GroupState.{GroupState, empty}

@@ -1,6 +1,5 @@
 -- The state of a group. Lists under keys are in rising order of the keys; waiters are in order of arrival.
 use Rattle.std.specs.Prelude.{ℕ, ℤ, List, [], Option}
-use Rattle.cp_ops_next.specs.declared.kind.Kind.{Kind}
 use Rattle.cp_base.specs.declared.identifier.GroupId.{GroupId}
 use Rattle.cp_group_state.specs.Rows.{Named, Object}
 use Rattle.cp_group_state.specs.Waiters.{Waiter}

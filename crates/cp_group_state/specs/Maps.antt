@@ -1,5 +1,5 @@
 -- Maps: the pairs of a key and its value, under the name of the map.
-use Rattle.std.specs.Prelude.{ℕ, Bool, true, false, not, List, Option, Some, None, if◌then◌else◌, bytes_eq}
+use Rattle.std.specs.Prelude.{ℕ, Bool, false, not, List, Option, Some, None, if◌then◌else◌, bytes_eq}
 use Rattle.std.specs.List.{filter}
 use Rattle.cp_ops_next.specs.declared.answer.Answer.{Answer}
 use Rattle.cp_ops_next.specs.declared.answer.Answer.TheVariants as answer

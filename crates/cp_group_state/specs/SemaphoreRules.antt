@@ -1,6 +1,5 @@
 -- Semaphores.
-use Rattle.std.specs.Prelude.{ℕ, Bool, true, false, ◌&&◌, List, if◌then◌else◌, is_some}
-use Rattle.cp_ops_next.specs.declared.kind.Kind.{Kind}
+use Rattle.std.specs.Prelude.{Bool, true, false, ◌&&◌, if◌then◌else◌, is_some}
 use Rattle.cp_base.specs.declared.identifier.Invocation.{Invocation}
 use Rattle.cp_ops_next.specs.declared.answer.Answer.TheVariants as answer
 use Rattle.cp_ops_next.specs.declared.sem_op.SemOp.{SemOp}
