@@ -20,3 +20,4 @@ pub mod Own
 pub mod Asked
 pub mod Answered
 pub mod Single
+pub mod Balance

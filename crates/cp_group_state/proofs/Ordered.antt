@@ -44,10 +44,10 @@ use Rattle.cp_group_state.proofs.Rising.{rising-put, rising-without, rising-filt
 use Rattle.cp_group_state.proofs.Fences.{locks-acquired, locks-released, locks-freed}
 use Rattle.cp_group_state.proofs.Walk.{either, Closed, walk_on_latch, walk_supersede, walk_outcome, walk_close, walk_time_out}
 
-object_total : IsTotalOrder object_cmp
+pub object_total : IsTotalOrder object_cmp
 object_total = then_total (on_total (λ (k : List ℕ × Kind). k.0) nat_list_cmp_total) (on_total (λ (k : List ℕ × Kind). kind_number k.1) nat_cmp_total)
 
-holding_total : IsTotalOrder holding_cmp
+pub holding_total : IsTotalOrder holding_cmp
 holding_total = then_total (on_total (λ (k : ℕ × List ℕ). k.0) nat_cmp_total) (on_total (λ (k : ℕ × List ℕ). k.1) nat_list_cmp_total)
 
 holder_total : IsTotalOrder holder_cmp
@@ -56,7 +56,7 @@ holder_total = then_total (on_total (λ (k : ℕ × ℕ). k.0) nat_cmp_total) (o
 pair_total : IsTotalOrder pair_cmp
 pair_total = then_total (on_total (λ (k : List ℕ × List ℕ). k.0) nat_list_cmp_total) (on_total (λ (k : List ℕ × List ℕ). k.1) nat_list_cmp_total)
 
-holding_key : IsKey holding_cmp
+pub holding_key : IsKey holding_cmp
 holding_key = record {
   here = λ k. rw (number_key.here k.0) (name_key.here k.1);
   same = λ k q e. let both = then_equal (nat_cmp k.0 q.0) (name_cmp k.1 q.1) e in pair_same k q (number_key.same k.0 q.0 both.0) (name_key.same k.1 q.1 both.1);
@@ -85,7 +85,7 @@ take-rises key row session n s h = either SemsRise (is_held key.1) _ _
     (put-sem s.rows key (record row { available = row.available -ℤ pos n }) h.0, set_held-rises s.holdings session key.0 (held s.holdings session key.0 + n) h.1)
     (put-sem s.rows key (record { total = row.total -ℤ pos n; available = row.available -ℤ pos n }) h.0, h.1)
 
-take_all-rises : (key : List ℕ × Kind) (ws : List Waiter) (s : Semaphores) → SemsRise s → SemsRise (take_all key ws s)
+pub take_all-rises : (key : List ℕ × Kind) (ws : List Waiter) (s : Semaphores) → SemsRise s → SemsRise (take_all key ws s)
 take_all-rises key [] s h = h
 take_all-rises key (w ∷ ws) s h = take_all-rises key ws (take_on key (find object_cmp s.rows key) w s) (at (find object_cmp s.rows key))
   where
@@ -96,7 +96,7 @@ take_all-rises key (w ∷ ws) s h = take_all-rises key ws (take_on key (find obj
 change-rises : (key : List ℕ × Kind) (row : SemaphoreRow) (n : ℤ) (s : Semaphores) → SemsRise s → SemsRise (change_total key row n s)
 change-rises key row n s h = (put-sem s.rows key (record { total = row.total +ℤ n; available = row.available +ℤ n }) h.0, h.1)
 
-step-rises : (key : List ℕ × Kind) (o : SemOp) (s : Semaphores) → SemsRise s → SemsRise (sem_step key o s).after
+pub step-rises : (key : List ℕ × Kind) (o : SemOp) (s : Semaphores) → SemsRise s → SemsRise (sem_step key o s).after
 step-rises key o s h = on (find object_cmp s.rows key) o
   where
     raise : (row : SemaphoreRow) (n : ℕ) → SemsRise (raise_total key row n s).after
@@ -123,7 +123,7 @@ step-rises key o s h = on (find object_cmp s.rows key) o
     on (Some row) (sem.Reduce session n) = either (λ (r : SemStep). SemsRise r.after) (int_lt (row.available -ℤ pos n) (neg_ℤ (pos (2 ^ 31)))) _ _ h (change-rises key row (neg_ℤ (pos n)) s h)
 
 -- rows whose values alone change
-keys-map : {K X : Type 0} (f : K × X → X) (rows : List (K × X)) → keys_of (map (λ e. (e.0, f e)) rows) ≡ keys_of rows
+pub keys-map : {K X : Type 0} (f : K × X → X) (rows : List (K × X)) → keys_of (map (λ e. (e.0, f e)) rows) ≡ keys_of rows
 keys-map f [] = refl
 keys-map {K} f (e ∷ es) = ap (λ (ks : List K). e.0 ∷ ks) (keys-map f es)
 

@@ -27,7 +27,7 @@ module _ {K X : Type 0} (cmp : K → K → Ordering) (key : IsKey cmp) (total : 
     by rest Equal = all
     by rest Greater = (all.0, rest)
 
-  above-all : (a b : K) (rows : List (K × X)) → cmp a b ≡ Less → AllByRecursion (λ y. cmp b y ≡ Less) (keys_of rows) → AllByRecursion (λ y. cmp a y ≡ Less) (keys_of rows)
+  pub above-all : (a b : K) (rows : List (K × X)) → cmp a b ≡ Less → AllByRecursion (λ y. cmp b y ≡ Less) (keys_of rows) → AllByRecursion (λ y. cmp a y ≡ Less) (keys_of rows)
   above-all a b [] l all = tt
   above-all a b (e ∷ es) l all = (total.trans a b e.0 l all.0, above-all a b es l all.1)
 
@@ -84,7 +84,7 @@ module _ {K X : Type 0} (cmp : K → K → Ordering) (key : IsKey cmp) (total : 
     by rest Less i = rw i rest
     by rest Greater i = rw i rest
 
-  less-none : (k : K) (rows : List (K × X)) → AllByRecursion (λ y. cmp k y ≡ Less) (keys_of rows) → find cmp rows k ≡ None
+  pub less-none : (k : K) (rows : List (K × X)) → AllByRecursion (λ y. cmp k y ≡ Less) (keys_of rows) → find cmp rows k ≡ None
   less-none k [] all = refl
   less-none k (f ∷ fs) all = rw all.0 (less-none k fs all.1)
 

@@ -6,12 +6,14 @@ use Rattle.std.specs.Ordering.{nat_cmp}
 use Rattle.std.specs.Map.{keys_of}
 use Rattle.std.specs.List.Sorted.{IsStrictlySortedBy}
 use Rattle.cp_ops_next.specs.declared.entry.Entry.{Entry}
-use Rattle.cp_group_state.specs.Rows.{Named, name_cmp, object_cmp, holding_cmp, holder_cmp, pair_cmp}
+use Rattle.cp_group_state.specs.Rows.{Named, Object, find, name_cmp, object_cmp, holding_cmp, holder_cmp, pair_cmp}
 use Rattle.std.specs.Prelude.{true, ◌≡◌, ℕ}
 use Rattle.std.specs.Map.{values_of}
 use Rattle.cp_base.specs.declared.identifier.ClientId.{ClientId}
 use Rattle.cp_group_state.specs.Waiters.{Waiter, stands}
 use Rattle.cp_group_state.specs.Sessions.{SessionRow, is_open_for}
+use Rattle.std.specs.Prelude.{◌+◌, ◌+ℤ◌, pos, Option, Some, None, if◌then◌else◌, bytes_eq}
+use Rattle.cp_group_state.specs.Semaphores.{Semaphores, SemaphoreRow, is_held}
 use Rattle.cp_group_state.specs.Locks.{LockRow, is_free, free_lock}
 use Rattle.cp_group_state.specs.GroupState.{GroupState}
 
@@ -51,3 +53,19 @@ OneSession rows = (a b : ℕ) (client : ClientId) → is_open_for rows a client 
 abbrev pub CallsDiffer : List Waiter → Type 0
 CallsDiffer [] = Unit {0}
 CallsDiffer (w ∷ ws) = (stands w.call ws ≡ false) × CallsDiffer ws
+
+-- what all sessions hold of the semaphore of this name
+abbrev pub held_by_all : List ℕ → List ((ℕ × List ℕ) × ℕ) → ℕ
+held_by_all name [] = 0
+held_by_all name (e ∷ es) = (if bytes_eq name e.0.1 then e.1 else 0) + held_by_all name es
+
+abbrev pub held_of : Object → List ((ℕ × List ℕ) × ℕ) → ℕ
+held_of key holdings = if is_held key.1 then held_by_all key.0 holdings else 0
+
+abbrev pub IsBalancedAt : Option SemaphoreRow → ℕ → Type 0
+IsBalancedAt None n = n ≡ 0
+IsBalancedAt (Some row) n = row.total ≡ row.available +ℤ pos n
+
+-- The total of a semaphore is what stands available and what is held. Nothing is held of one that isn't there.
+abbrev pub IsBalanced : Semaphores → Type 0
+IsBalanced s = (key : Object) → IsBalancedAt (find object_cmp s.rows key) (held_of key s.holdings)

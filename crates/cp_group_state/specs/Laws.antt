@@ -5,7 +5,7 @@ use Rattle.cp_group_state.specs.Apply.{run}
 use Rattle.cp_group_state.specs.GroupState.{empty}
 use Rattle.cp_group_state.specs.History.{History, IsOrderly}
 use Rattle.cp_group_state.specs.Repeats.{ActsAtMostOnce}
-use Rattle.cp_group_state.specs.Invariants.{IsOrdered, Always, LocksWell, OneSession, CallsDiffer}
+use Rattle.cp_group_state.specs.Invariants.{IsOrdered, Always, LocksWell, OneSession, CallsDiffer, IsBalanced}
 
 abbrev pub CallsActAtMostOnce : Type 0
 CallsActAtMostOnce = (history : History) → IsOrderly history → ActsAtMostOnce history
@@ -27,3 +27,6 @@ ClientsHaveOneSession = (history : History) → Always (λ s. OneSession s.sessi
 
 abbrev pub CallsWaitOnce : Type 0
 CallsWaitOnce = (history : History) → Always (λ s. CallsDiffer s.waiters) history
+
+abbrev pub PermitsStayBalanced : Type 0
+PermitsStayBalanced = (history : History) → Always (λ s. IsBalanced s.semaphores) history

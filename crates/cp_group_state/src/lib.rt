@@ -2,7 +2,7 @@
 //! history. No code: the functions below state laws.
 #![tactic(auto)]
 
-ghost use Rattle.cp_group_state.specs.Laws.{CallsActAtMostOnce, FencesAlwaysRise, ListsStayOrdered, AnsweredFencesStand, LocksAreHeldOrFree, ClientsHaveOneSession, CallsWaitOnce};
+ghost use Rattle.cp_group_state.specs.Laws.{CallsActAtMostOnce, FencesAlwaysRise, ListsStayOrdered, AnsweredFencesStand, LocksAreHeldOrFree, ClientsHaveOneSession, CallsWaitOnce, PermitsStayBalanced};
 
 mod rows;
 
@@ -42,4 +42,9 @@ pub fn clients_have_one_session()
 /// No two waiters are of one call.
 pub fn calls_wait_once()
     ensures { CallsWaitOnce }
+{}
+
+/// The total of a semaphore is what stands available and what is held.
+pub fn permits_stay_balanced()
+    ensures { PermitsStayBalanced }
 {}
