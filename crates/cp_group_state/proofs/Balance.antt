@@ -1,5 +1,5 @@
 -- The total of a semaphore is what stands available and what is held.
-use Rattle.std.proofs.Common.{◌≡◌, ℕ, ◌+◌, ◌-◌, ◌^◌, ◌≤◌, Bool, true, false, not, ◌&&◌, List, [], ◌∷◌, map, sum, Some, None, Option, refl, ap, sym, ◌∙◌, subst, arith, if◌then◌else◌, cond}
+use Rattle.std.proofs.Common.{is_some, ◌<◌, ◌≡◌, ℕ, ◌+◌, ◌-◌, ◌^◌, ◌≤◌, Bool, true, false, not, ◌&&◌, List, [], ◌∷◌, map, sum, Some, None, Option, refl, ap, sym, ◌∙◌, subst, arith, if◌then◌else◌, cond}
 use Rattle.std.specs.Prelude.{◌==◌, nat_lt, All, ℤ, pos, neg_ℤ, int_lt, ◌-ℤ◌, ◌+ℤ◌, bytes_eq, unwrap_or}
 use Rattle.std.specs.declared.cmp.Ordering.{Ordering}
 use Rattle.std.specs.declared.cmp.Ordering.TheVariants.{Less, Equal, Greater}
@@ -9,7 +9,9 @@ use Rattle.std.specs.List.{filter}
 use Rattle.std.specs.List.Sorted.{IsStrictlySortedBy}
 use Rattle.std.proofs.lemmas.Bool.Decides.{nat_tests}
 use Rattle.std.proofs.lemmas.Slice.Eq.{bytes_eq-Decides}
-use Rattle.std.proofs.lemmas.List.Elements.{All-nil, All-cons}
+use Rattle.std.proofs.lemmas.List.Elements.{All-nil, All-cons, All-head, All-tail}
+use Rattle.std.proofs.lemmas.Map.Views.{All-values-insert_entry}
+use Rattle.std.specs.Map.{values_of}
 use Rattle.std.proofs.lemmas.List.Sums.{sum_by-cons}
 use Rattle.std.proofs.Math.IntN.{+ℤ_assoc, +ℤ_comm, +ℤ_idr, -ℤ-+ℤ_cancel, pos-+ℤ-pos}
 use Rattle.cp_ops_next.specs.declared.kind.Kind.{Kind}
@@ -30,7 +32,7 @@ use Rattle.cp_group_state.specs.Changes.{Change}
 use Rattle.cp_group_state.specs.Destroying.{add_gone, drop_rows}
 use Rattle.cp_group_state.specs.Protected.{session_in}
 use Rattle.cp_group_state.specs.Apply.{Applied, run, apply, apply_call, is_elsewhere, supersede}
-use Rattle.cp_group_state.specs.Invariants.{Always, IsBalanced, IsBalancedAt, held_by_all, held_of}
+use Rattle.cp_group_state.specs.Invariants.{Always, HoldingsStand, IsBalanced, IsBalancedAt, held_by_all, held_of}
 use Rattle.cp_group_state.proofs.Keyed.{no_true, equal_is, pair_same, find-put_same, find-put_other, find-without_other, object_key}
 use Rattle.cp_group_state.proofs.Rising.{Rising, rising-without, rising-filter, find-without_same, less-none, above-all}
 use Rattle.cp_group_state.proofs.Walk.{cases, either, Closed, walk_supersede, walk_outcome, walk_on_latch, walk_close, walk_time_out, keep_session}
@@ -314,9 +316,67 @@ sem-gone name s r b = gone-balanced (name, kind.Sem) (filter (λ e. not (bytes_e
 jsem-gone : (name : List ℕ) (s : Semaphores) → Rising object_cmp s.rows → IsBalanced s → IsBalanced (sem_destroyed (name, kind.Jsem) s)
 jsem-gone name s r b = gone-balanced (name, kind.Jsem) (filter (λ e. true) s.holdings) s r b refl (λ q far. ap (λ (m : ℕ). if is_held q.1 then m else 0) (all-left q.0 s.holdings))
 
+-- a holding has a permit
+abbrev pub Positive : Holdings → Type 0
+Positive h = All (λ (n : ℕ). 0 < n) (values_of h)
+
+more-than-none : (n : ℕ) → (n == 0) ≡ false → 0 < n
+more-than-none n h = grind (arith, nat_tests)
+
+positive-without : (h : Holdings) (k : ℕ × List ℕ) → Positive h → Positive (without holding_cmp h k)
+positive-without [] k p = p
+positive-without (e ∷ es) k p = either Positive (is_at (holding_cmp k) e.0) _ _ (All-tail (λ (n : ℕ). 0 < n) e.1 (values_of es) p)
+    (All-cons (λ (n : ℕ). 0 < n) e.1 (values_of (without holding_cmp es k)) (All-head (λ (n : ℕ). 0 < n) e.1 (values_of es) p) (positive-without es k (All-tail (λ (n : ℕ). 0 < n) e.1 (values_of es) p)))
+
+positive-filter : (test : (ℕ × List ℕ) × ℕ → Bool) (h : Holdings) → Positive h → Positive (filter test h)
+positive-filter test [] p = p
+positive-filter test (e ∷ es) p = either Positive (test e) (e ∷ filter test es) (filter test es)
+    (All-cons (λ (n : ℕ). 0 < n) e.1 (values_of (filter test es)) (All-head (λ (n : ℕ). 0 < n) e.1 (values_of es) p) (positive-filter test es (All-tail (λ (n : ℕ). 0 < n) e.1 (values_of es) p)))
+    (positive-filter test es (All-tail (λ (n : ℕ). 0 < n) e.1 (values_of es) p))
+
+positive-set : (h : Holdings) (session : ℕ) (name : List ℕ) (n : ℕ) → Positive h → Positive (set_held h session name n)
+positive-set h session name n p = cases Positive (n == 0) _ _ (λ e. positive-without h (session, name) p)
+    (λ e. All-values-insert_entry holding_cmp (session, name) n (λ (n : ℕ). 0 < n) h p (more-than-none n e))
+
+positive-take : (key : Object) (row : SemaphoreRow) (session n : ℕ) (s : Semaphores) → Positive s.holdings → Positive (take key row session n s).holdings
+positive-take key row session n s p = either (λ (x : Semaphores). Positive x.holdings) (is_held key.1) _ _ (positive-set s.holdings session key.0 (held s.holdings session key.0 + n) p) p
+
+positive-step : (key : Object) (o : SemOp) (s : Semaphores) → Positive s.holdings → Positive (sem_step key o s).after.holdings
+positive-step key o s p = on (find object_cmp s.rows key) o
+  where
+    raise : (row : SemaphoreRow) (n : ℕ) → Positive (raise_total key row n s).after.holdings
+    raise row n = either (λ (r : SemStep). Positive r.after.holdings) (int_lt (pos (2 ^ 31 - 1)) (row.total +ℤ pos n)) _ _ p p
+
+    release : (row : SemaphoreRow) (session n : ℕ) → Positive (release_held key row session n s).after.holdings
+    release row session n = either (λ (r : SemStep). Positive r.after.holdings) (nat_lt (held s.holdings session key.0) n) _ _ p (positive-set s.holdings session key.0 (held s.holdings session key.0 - n) p)
+
+    on : (row : Option SemaphoreRow) (o : SemOp) → Positive (sem_step_on key o row s).after.holdings
+    on None sem.Available = p
+    on None (sem.Init n) = either (λ (r : SemStep). Positive r.after.holdings) (has_room object_cmp most s.rows key) _ _ p p
+    on None (sem.Acquire session n wish) = p
+    on None (sem.Release session n) = p
+    on None (sem.Drain session) = p
+    on None (sem.Increase session n) = p
+    on None (sem.Reduce session n) = p
+    on (Some row) sem.Available = p
+    on (Some row) (sem.Init n) = p
+    on (Some row) (sem.Acquire session n wish) = either (λ (r : SemStep). Positive r.after.holdings) (int_lt row.available (pos n)) _ _ p (positive-take key row session n s p)
+    on (Some row) (sem.Release session n) = either (λ (r : SemStep). Positive r.after.holdings) (is_held key.1) _ _ (release row session n) (raise row n)
+    on (Some row) (sem.Drain session) = positive-take key row session (at_least_none row.available) s p
+    on (Some row) (sem.Increase session n) = raise row n
+    on (Some row) (sem.Reduce session n) = either (λ (r : SemStep). Positive r.after.holdings) (int_lt (row.available -ℤ pos n) (neg_ℤ (pos (2 ^ 31)))) _ _ p p
+
+positive-take_all : (key : Object) (ws : List Waiter) (s : Semaphores) → Positive s.holdings → Positive (take_all key ws s).holdings
+positive-take_all key [] s p = p
+positive-take_all key (w ∷ ws) s p = positive-take_all key ws (take_on key (find object_cmp s.rows key) w s) (at (find object_cmp s.rows key))
+  where
+    at : (o : Option SemaphoreRow) → Positive (take_on key o w s).holdings
+    at None = p
+    at (Some row) = positive-take key row w.session w.permits s p
+
 -- every history
 abbrev pub Balances : Semaphores → Type 0
-Balances s = SemsRise s × IsBalanced s
+Balances s = SemsRise s × IsBalanced s × Positive s.holdings
 
 abbrev pub KeepsBalance : GroupState → Change → Type 0
 KeepsBalance s c = Balances s.semaphores → Balances c.state.semaphores
@@ -327,11 +387,11 @@ drop-balanced name kind.Ref s h = h
 drop-balanced name kind.Lock s h = h
 drop-balanced name kind.Latch s h = h
 drop-balanced name kind.Map s h = h
-drop-balanced name kind.Sem s h = ((rising-without object_cmp object_key object_total s.semaphores.rows (name, kind.Sem) h.0.0, rising-filter holding_cmp holding_key holding_total _ s.semaphores.holdings h.0.1), sem-gone name s.semaphores h.0.0 h.1)
-drop-balanced name kind.Jsem s h = ((rising-without object_cmp object_key object_total s.semaphores.rows (name, kind.Jsem) h.0.0, rising-filter holding_cmp holding_key holding_total (λ e. true) s.semaphores.holdings h.0.1), jsem-gone name s.semaphores h.0.0 h.1)
+drop-balanced name kind.Sem s h = ((rising-without object_cmp object_key object_total s.semaphores.rows (name, kind.Sem) h.0.0, rising-filter holding_cmp holding_key holding_total _ s.semaphores.holdings h.0.1), sem-gone name s.semaphores h.0.0 h.1, positive-filter _ s.semaphores.holdings h.2)
+drop-balanced name kind.Jsem s h = ((rising-without object_cmp object_key object_total s.semaphores.rows (name, kind.Jsem) h.0.0, rising-filter holding_cmp holding_key holding_total (λ e. true) s.semaphores.holdings h.0.1), jsem-gone name s.semaphores h.0.0 h.1, positive-filter (λ e. true) s.semaphores.holdings h.2)
 
 back-both : (sessions : List ℕ) (s : Semaphores) → Balances s → Balances (all_back sessions s)
-back-both sessions s h = ((subst (IsStrictlySortedBy object_cmp) (sym (keys-map _ s.rows)) h.0.0, rising-filter holding_cmp holding_key holding_total _ s.holdings h.0.1), all_back-balanced sessions s h.1)
+back-both sessions s h = ((subst (IsStrictlySortedBy object_cmp) (sym (keys-map _ s.rows)) h.0.0, rising-filter holding_cmp holding_key holding_total _ s.holdings h.0.1), all_back-balanced sessions s h.1, positive-filter _ s.holdings h.2)
 
 balance_closed : (i : ℕ) → Closed i KeepsBalance
 balance_closed i = record {
@@ -340,8 +400,8 @@ balance_closed i = record {
   ends = λ s ended all h. h;
   handed = λ s c name w g. g;
   freed = λ s c sessions g. g;
-  serves = λ s c key row is g h. g (take_all-rises key (served key row.available s.waiters) s.semaphores h.0, take_all-balanced key (served key row.available s.waiters) s.semaphores h.0 h.1);
-  permits = λ s c key o g h. g (step-rises key o s.semaphores h.0, step-balanced key o s.semaphores h.0 h.1);
+  serves = λ s c key row is g h. g (take_all-rises key (served key row.available s.waiters) s.semaphores h.0, take_all-balanced key (served key row.available s.waiters) s.semaphores h.0 h.1, positive-take_all key (served key row.available s.waiters) s.semaphores h.2);
+  permits = λ s c key o g h. g (step-rises key o s.semaphores h.0, step-balanced key o s.semaphores h.0 h.1, positive-step key o s.semaphores h.2);
   backs = λ s c sessions g h. g (back-both sessions s.semaphores h);
   closes = λ s sessions h. h;
   acquires = λ s c name who limit g. g;
@@ -378,12 +438,40 @@ first-held key false e = rw e
 
 at-first : Balances empty.semaphores
 unfolding IsStrictlySortedBy
-at-first = ((tt, tt), λ key. first-held key (is_held key.1) refl)
+at-first = ((tt, tt), λ key. first-held key (is_held key.1) refl, All-nil (λ (n : ℕ). 0 < n))
 
-weaker : (es : List Entry) (i : ℕ) (s : GroupState) → Balances s.semaphores → All (λ (t : GroupState). IsBalanced t.semaphores) (map (λ x. x.state) (run i es s))
-weaker [] i s h = All-nil (λ (t : GroupState). IsBalanced t.semaphores)
-weaker (e ∷ es) i s h = let next = balance-apply i e s h in
-    All-cons (λ (t : GroupState). IsBalanced t.semaphores) (apply i e s).state (map (λ x. x.state) (run (i + 1) es (apply i e s).state)) next.1 (weaker es (i + 1) (apply i e s).state next)
+-- a holding's semaphore is there
+holdings-stand : (s : Semaphores) → Balances s → HoldingsStand s
+holdings-stand s h session name n is = (positive, at (find object_cmp s.rows (name, kind.Sem)) refl)
+  where
+    positive : 0 < n
+    positive = find-positive s.holdings h.2 is
+      where
+        find-positive : (h : Holdings) → Positive h → find holding_cmp h (session, name) ≡ Some n → 0 < n
+        find-positive [] p is = cc
+        find-positive (e ∷ es) p is = by (is_at (holding_cmp (session, name)) e.0) is (λ k. find-positive es (All-tail (λ (n : ℕ). 0 < n) e.1 (values_of es) p) k)
+          where
+            some_is : (a b : ℕ) → Some a ≡ Some b → a ≡ b
+            some_is a b e = cc
+
+            by : (c : Bool) → cond c (Some e.1) (find holding_cmp es (session, name)) ≡ Some n → (find holding_cmp es (session, name) ≡ Some n → 0 < n) → 0 < n
+            by true is rest = subst (λ (m : ℕ). 0 < m) (some_is e.1 n is) (All-head (λ (n : ℕ). 0 < n) e.1 (values_of es) p)
+            by false is rest = rest is
+
+    at : (o : Option SemaphoreRow) → find object_cmp s.rows (name, kind.Sem) ≡ o → is_some (find object_cmp s.rows (name, kind.Sem)) ≡ true
+    at (Some row) e = rw e
+    at None e = let none : held_by_all name s.holdings ≡ 0 = subst (λ (o : Option SemaphoreRow). IsBalancedAt o (held_by_all name s.holdings)) e (h.1 (name, kind.Sem)) in
+        let sums = all-without name session s.holdings in
+        let one : held s.holdings session name ≡ n = ap (λ (o : Option ℕ). unwrap_or o 0) is in
+        absurd (omega (arith, positive))
+
+all-states : (Q : Semaphores → Type 0) → ((s : Semaphores) → Balances s → Q s) → (es : List Entry) (i : ℕ) (s : GroupState) → Balances s.semaphores → All (λ (t : GroupState). Q t.semaphores) (map (λ x. x.state) (run i es s))
+all-states Q f [] i s h = All-nil (λ (t : GroupState). Q t.semaphores)
+all-states Q f (e ∷ es) i s h = let next = balance-apply i e s h in
+    All-cons (λ (t : GroupState). Q t.semaphores) (apply i e s).state (map (λ x. x.state) (run (i + 1) es (apply i e s).state)) (f (apply i e s).state.semaphores next) (all-states Q f es (i + 1) (apply i e s).state next)
 
 pub always-balanced : (es : List Entry) → Always (λ s. IsBalanced s.semaphores) es
-always-balanced es = weaker es 1 empty at-first
+always-balanced es = all-states IsBalanced (λ s h. h.1) es 1 empty at-first
+
+pub always-stand : (es : List Entry) → Always (λ s. HoldingsStand s.semaphores) es
+always-stand es = all-states HoldingsStand holdings-stand es 1 empty at-first

@@ -1,4 +1,6 @@
 -- What holds of the state of a group after every history.
+use Rattle.std.specs.Prelude.{◌<◌, is_some}
+use Rattle.cp_ops_next.specs.declared.kind.Kind.TheVariants as kind
 use Rattle.std.specs.Prelude.{List, [], ◌∷◌, All, false}
 use Rattle.cp_group_state.specs.Fences.{states}
 use Rattle.std.specs.declared.cmp.Ordering.{Ordering}
@@ -69,3 +71,7 @@ IsBalancedAt (Some row) n = row.total ≡ row.available +ℤ pos n
 -- The total of a semaphore is what stands available and what is held. Nothing is held of one that isn't there.
 abbrev pub IsBalanced : Semaphores → Type 0
 IsBalanced s = (key : Object) → IsBalancedAt (find object_cmp s.rows key) (held_of key s.holdings)
+
+-- a session holds one permit or more, of a semaphore that is there
+abbrev pub HoldingsStand : Semaphores → Type 0
+HoldingsStand s = (session : ℕ) (name : List ℕ) (n : ℕ) → find holding_cmp s.holdings (session, name) ≡ Some n → (0 < n) × (is_some (find object_cmp s.rows (name, kind.Sem)) ≡ true)

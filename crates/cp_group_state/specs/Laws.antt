@@ -5,7 +5,7 @@ use Rattle.cp_group_state.specs.Apply.{run}
 use Rattle.cp_group_state.specs.GroupState.{empty}
 use Rattle.cp_group_state.specs.History.{History, IsOrderly}
 use Rattle.cp_group_state.specs.Repeats.{ActsAtMostOnce}
-use Rattle.cp_group_state.specs.Invariants.{IsOrdered, Always, LocksWell, OneSession, CallsDiffer, IsBalanced}
+use Rattle.cp_group_state.specs.Invariants.{IsOrdered, Always, LocksWell, OneSession, CallsDiffer, IsBalanced, HoldingsStand}
 
 abbrev pub CallsActAtMostOnce : Type 0
 CallsActAtMostOnce = (history : History) → IsOrderly history → ActsAtMostOnce history
@@ -30,3 +30,6 @@ CallsWaitOnce = (history : History) → Always (λ s. CallsDiffer s.waiters) his
 
 abbrev pub PermitsStayBalanced : Type 0
 PermitsStayBalanced = (history : History) → Always (λ s. IsBalanced s.semaphores) history
+
+abbrev pub HoldingsAreOfSemaphores : Type 0
+HoldingsAreOfSemaphores = (history : History) → Always (λ s. HoldingsStand s.semaphores) history

@@ -2,7 +2,7 @@
 //! history. No code: the functions below state laws.
 #![tactic(auto)]
 
-ghost use Rattle.cp_group_state.specs.Laws.{CallsActAtMostOnce, FencesAlwaysRise, ListsStayOrdered, AnsweredFencesStand, LocksAreHeldOrFree, ClientsHaveOneSession, CallsWaitOnce, PermitsStayBalanced};
+ghost use Rattle.cp_group_state.specs.Laws.{HoldingsAreOfSemaphores, CallsActAtMostOnce, FencesAlwaysRise, ListsStayOrdered, AnsweredFencesStand, LocksAreHeldOrFree, ClientsHaveOneSession, CallsWaitOnce, PermitsStayBalanced};
 
 mod rows;
 
@@ -47,4 +47,9 @@ pub fn calls_wait_once()
 /// The total of a semaphore is what stands available and what is held.
 pub fn permits_stay_balanced()
     ensures { PermitsStayBalanced }
+{}
+
+/// A session holds one permit or more, of a semaphore that is there.
+pub fn holdings_are_of_semaphores()
+    ensures { HoldingsAreOfSemaphores }
 {}
