@@ -251,7 +251,7 @@ split sessions name (e ∷ es) = by (is_among sessions e.0.0) (bytes_eq name e.0
   where
     by : (a b : Bool) → bytes_eq name e.0.1 ≡ b → held_by_all name es ≡ held_together sessions name es + held_by_all name (filter (λ e. not (is_among sessions e.0.0)) es)
         → (if b then e.1 else 0) + held_by_all name es ≡ sum (map (λ e. e.1) (if (a && b) then e ∷ filter (λ e. is_among sessions e.0.0 && bytes_eq name e.0.1) es else filter (λ e. is_among sessions e.0.0 && bytes_eq name e.0.1) es))
-            + held_by_all name (if (not a) then e ∷ filter (λ e. not (is_among sessions e.0.0)) es else filter (λ e. not (is_among sessions e.0.0)) es)
+        + held_by_all name (if (not a) then e ∷ filter (λ e. not (is_among sessions e.0.0)) es else filter (λ e. not (is_among sessions e.0.0)) es)
     by true true i rest = let one : sum (map (λ e. e.1) (e ∷ filter (λ e. is_among sessions e.0.0 && bytes_eq name e.0.1) es)) ≡ e.1 + held_together sessions name es = sum_by-cons (λ (n : ℕ). n) e.1 (map (λ e. e.1) (filter (λ e. is_among sessions e.0.0 && bytes_eq name e.0.1) es)) in rw one (omega arith)
     by true false i rest = omega arith
     by false true i rest = rw i (omega arith)

@@ -28,7 +28,7 @@ use Rattle.cp_group_state.specs.SessionRules.{session_rule}
 use Rattle.cp_group_state.specs.ValueRules.{on_longs, on_refs, on_maps}
 use Rattle.cp_group_state.specs.Protected.{session_in}
 
--- the rule of each operation
+-- the rule of each operation; those on groups and members never come here
 abbrev pub rule : ℕ → Invocation → Op → GroupState → Outcome
 rule index call (op.Long name o) s = on_longs (long_step s.longs name o) s
 rule index call (op.Ref name o) s = on_refs (ref_step s.refs name o) s

@@ -2,7 +2,8 @@
 //! history. No code: the functions below state laws.
 #![tactic(auto)]
 
-ghost use Rattle.cp_group_state.specs.Laws.{HoldingsAreOfSemaphores, CallsActAtMostOnce, FencesAlwaysRise, ListsStayOrdered, AnsweredFencesStand, LocksAreHeldOrFree, ClientsHaveOneSession, CallsWaitOnce, PermitsStayBalanced};
+ghost use Rattle.cp_group_state.specs.Laws.{CallsActAtMostOnce, FencesAlwaysRise, AnsweredFencesStand, ListsStayOrdered};
+ghost use Rattle.cp_group_state.specs.Laws.{LocksAreHeldOrFree, ClientsHaveOneSession, CallsWaitOnce, PermitsStayBalanced, HoldingsAreOfSemaphores};
 
 mod rows;
 
@@ -23,8 +24,8 @@ pub fn lists_stay_ordered()
     ensures { ListsStayOrdered }
 {}
 
-/// A fence that is answered is that of a lock which the call's thread holds after the entry, or it was told to the
-/// call before.
+/// In every orderly history a fence that is answered is that of the lock which the call asks for, and which its thread
+/// holds after the entry, in the session that the call names; or it was told to the call before.
 pub fn answered_fences_stand()
     ensures { AnsweredFencesStand }
 {}
