@@ -2,9 +2,9 @@
 use Rattle.std.proofs.Common.{◌≡◌, ℕ, ◌+◌, List, [], ◌∷◌, ◌++◌, sym, ◌∙◌, ap, arith, map, length, append_assoc}
 use Rattle.std.specs.Prelude.{Contains}
 use Rattle.cp_base.specs.declared.identifier.Invocation.{Invocation}
-use Rattle.cp_ops.specs.declared.op.Op.{Op}
-use Rattle.cp_ops.specs.declared.op.Op.TheVariants as op
-use Rattle.cp_ops.specs.declared.entry.Entry.TheVariants as entry
+use Rattle.cp_long_ops.specs.declared.op.Op.{Op}
+use Rattle.cp_long_ops.specs.declared.op.Op.TheVariants as op
+use Rattle.cp_long_ops.specs.declared.entry.Entry.TheVariants as entry
 use Rattle.cp_execution.specs.Group.{GroupState, Reply, apply}
 use Rattle.cp_execution.specs.History.{Committed, given_at, answers_from}
 use Rattle.cp_execution.proofs.Lists.{only_element, append_nil}

@@ -5,11 +5,11 @@ use Rattle.std.proofs.lemmas.List.Elements.{Contains-append_cases, Contains-appe
 use Rattle.cp_base.specs.declared.identifier.ClientNo.{ClientNo}
 use Rattle.cp_base.specs.declared.identifier.ThreadNo.{ThreadNo}
 use Rattle.cp_base.specs.declared.identifier.Invocation.{Invocation}
-use Rattle.cp_ops.specs.declared.op.Op.{Op}
-use Rattle.cp_ops.specs.declared.entry.Entry.{Entry}
-use Rattle.cp_ops.specs.declared.entry.Entry.TheVariants as entry
-use Rattle.cp_ops.specs.declared.user_op.UserOp.{UserOp}
-use Rattle.cp_ops.specs.Ops.{requested}
+use Rattle.cp_long_ops.specs.declared.op.Op.{Op}
+use Rattle.cp_long_ops.specs.declared.entry.Entry.{Entry}
+use Rattle.cp_long_ops.specs.declared.entry.Entry.TheVariants as entry
+use Rattle.cp_long_ops.specs.declared.user_op.UserOp.{UserOp}
+use Rattle.cp_long_ops.specs.Ops.{requested}
 use Rattle.cp_schedule.specs.declared.schedule.Event.{Event}
 use Rattle.cp_schedule.specs.declared.schedule.Event.TheVariants as event
 use Rattle.cp_execution.specs.Group.{Reply, Applied, empty, apply}

@@ -4,10 +4,10 @@ use Rattle.cp_base.specs.declared.identifier.ClientNo.{ClientNo}
 use Rattle.cp_base.specs.declared.identifier.ThreadNo.{ThreadNo}
 use Rattle.cp_base.specs.declared.identifier.Invocation.{Invocation}
 use Rattle.cp_base.specs.Identifiers.{replay_id}
-use Rattle.cp_ops.specs.declared.op.Op.{Op}
-use Rattle.cp_ops.specs.declared.answer.Answer.{Answer}
-use Rattle.cp_ops.specs.declared.entry.Entry.TheVariants as entry
-use Rattle.cp_ops.specs.Ops.{requested}
+use Rattle.cp_long_ops.specs.declared.op.Op.{Op}
+use Rattle.cp_long_ops.specs.declared.answer.Answer.{Answer}
+use Rattle.cp_long_ops.specs.declared.entry.Entry.TheVariants as entry
+use Rattle.cp_long_ops.specs.Ops.{requested}
 use Rattle.cp_schedule.specs.declared.schedule.Event.{Event}
 use Rattle.cp_schedule.specs.declared.schedule.Event.TheVariants as event
 use Rattle.cp_schedule.specs.declared.schedule.Schedule.{Schedule}

@@ -1,12 +1,12 @@
 -- The state of a group, and what one entry does to it: the one-thread machine.
 use Rattle.std.specs.Prelude.{ℕ, List, [], ◌∷◌}
 use Rattle.cp_base.specs.declared.identifier.Invocation.{Invocation}
-use Rattle.cp_ops.specs.declared.op.Op.{Op}
-use Rattle.cp_ops.specs.declared.op.Op.TheVariants as op
-use Rattle.cp_ops.specs.declared.answer.Answer.{Answer}
-use Rattle.cp_ops.specs.declared.entry.Entry.{Entry}
-use Rattle.cp_ops.specs.declared.entry.Entry.TheVariants as entry
-use Rattle.cp_atomic.specs.Longs.{Rows, long_step}
+use Rattle.cp_long_ops.specs.declared.op.Op.{Op}
+use Rattle.cp_long_ops.specs.declared.op.Op.TheVariants as op
+use Rattle.cp_long_ops.specs.declared.answer.Answer.{Answer}
+use Rattle.cp_long_ops.specs.declared.entry.Entry.{Entry}
+use Rattle.cp_long_ops.specs.declared.entry.Entry.TheVariants as entry
+use Rattle.cp_longs.specs.Longs.{Rows, long_step}
 
 pub record GroupState : Type 0 where
   pub longs : Rows

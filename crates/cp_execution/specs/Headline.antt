@@ -3,9 +3,9 @@ use Rattle.std.specs.Prelude.{◌≡◌, ◌≤◌, ◌+◌, ℕ, Some, List, le
 use Rattle.cp_base.specs.declared.identifier.ClientNo.{ClientNo}
 use Rattle.cp_base.specs.declared.identifier.ThreadNo.{ThreadNo}
 use Rattle.cp_base.specs.Identifiers.{replay_id}
-use Rattle.cp_ops.specs.declared.entry.Entry.TheVariants as entry
-use Rattle.cp_ops.specs.declared.user_op.UserOp.{UserOp}
-use Rattle.cp_ops.specs.Ops.{requested}
+use Rattle.cp_long_ops.specs.declared.entry.Entry.TheVariants as entry
+use Rattle.cp_long_ops.specs.declared.user_op.UserOp.{UserOp}
+use Rattle.cp_long_ops.specs.Ops.{requested}
 use Rattle.cp_schedule.specs.declared.schedule.Event.TheVariants as event
 use Rattle.cp_schedule.specs.declared.schedule.Schedule.{Schedule}
 use Rattle.cp_execution.specs.History.{Committed, Given, IsOrderly, answers_of}

@@ -1,10 +1,10 @@
 -- The history of a group: its committed entries, at the indexes 1, 2, 3 and so on.
 use Rattle.std.specs.Prelude.{◌≡◌, ◌≤◌, ◌+◌, ◌^◌, ℕ, List, [], ◌∷◌, ◌++◌, length, map, Contains}
 use Rattle.cp_base.specs.declared.identifier.Invocation.{Invocation}
-use Rattle.cp_ops.specs.declared.op.Op.{Op}
-use Rattle.cp_ops.specs.declared.answer.Answer.{Answer}
-use Rattle.cp_ops.specs.declared.entry.Entry.{Entry}
-use Rattle.cp_ops.specs.declared.entry.Entry.TheVariants as entry
+use Rattle.cp_long_ops.specs.declared.op.Op.{Op}
+use Rattle.cp_long_ops.specs.declared.answer.Answer.{Answer}
+use Rattle.cp_long_ops.specs.declared.entry.Entry.{Entry}
+use Rattle.cp_long_ops.specs.declared.entry.Entry.TheVariants as entry
 use Rattle.cp_execution.specs.Group.{GroupState, Reply, empty, apply}
 
 -- an entry, with the event that committed it

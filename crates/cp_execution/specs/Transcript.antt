@@ -3,7 +3,7 @@ use Rattle.std.specs.Prelude.{ℕ, ◌+◌, List, [], ◌∷◌, ◌++◌, codes
 use Rattle.std.specs.List.{flat_map}
 use Rattle.std.specs.Fmt.{decimal}
 use Rattle.cp_words.specs.Text.{line}
-use Rattle.cp_ops.specs.Ops.{answer_text, entry_text}
+use Rattle.cp_long_ops.specs.Ops.{answer_text, entry_text}
 use Rattle.cp_schedule.specs.declared.schedule.Event.{Event}
 use Rattle.cp_schedule.specs.Schedules.{event_text}
 use Rattle.cp_execution.specs.History.{Committed}

@@ -1,13 +1,13 @@
 -- A destroyed group has no waiters.
 use Rattle.std.proofs.Common.{◌≡◌, ℕ, Bool, true, false, List, refl, sym, ◌∙◌, if◌then◌else◌}
 use Rattle.std.specs.Prelude.{◌==◌, Contains}
-use Rattle.cp_ops_next.specs.declared.kind.Kind.{Kind}
-use Rattle.cp_ops_next.specs.declared.kind.Kind.TheVariants as kind
+use Rattle.cp_op_values.specs.declared.kind.Kind.{Kind}
+use Rattle.cp_op_values.specs.declared.kind.Kind.TheVariants as kind
 use Rattle.cp_base.specs.declared.identifier.Invocation.{Invocation}
-use Rattle.cp_ops_next.specs.declared.answer.Answer.TheVariants as answer
-use Rattle.cp_ops_next.specs.declared.op.Op.{Op}
-use Rattle.cp_ops_next.specs.declared.entry.Entry.{Entry}
-use Rattle.cp_ops_next.specs.declared.entry.Entry.TheVariants as entry
+use Rattle.cp_answers.specs.declared.answer.Answer.TheVariants as answer
+use Rattle.cp_ops.specs.declared.op.Op.{Op}
+use Rattle.cp_ops.specs.declared.entry.Entry.{Entry}
+use Rattle.cp_ops.specs.declared.entry.Entry.TheVariants as entry
 use Rattle.cp_group_state.specs.Waiters.{Waiter, ending}
 use Rattle.cp_group_state.specs.Sessions.{unchanged_since}
 use Rattle.cp_group_state.specs.Latches.{latch_step}

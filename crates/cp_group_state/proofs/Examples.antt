@@ -3,22 +3,22 @@ use Rattle.std.proofs.Common.{◌≡◌, ℕ, Bool, true, false, List, [], ◌�
 use Rattle.std.specs.Prelude.{pos, negsuc}
 use Rattle.cp_base.specs.Identifiers.{replay_id}
 use Rattle.cp_base.specs.declared.identifier.Invocation.{Invocation}
-use Rattle.cp_ops_next.specs.declared.kind.Kind.TheVariants as kind
-use Rattle.cp_ops_next.specs.declared.wish.Wish.TheVariants as wish
-use Rattle.cp_ops_next.specs.declared.answer.Answer.{Answer}
-use Rattle.cp_ops_next.specs.declared.answer.Answer.TheVariants as answer
-use Rattle.cp_ops_next.specs.declared.argument.Argument.TheVariants as argument
-use Rattle.cp_ops_next.specs.declared.long_op.LongOp.TheVariants as long
-use Rattle.cp_ops_next.specs.declared.ref_op.RefOp.TheVariants as ref
-use Rattle.cp_ops_next.specs.declared.map_op.MapOp.TheVariants as map_op
-use Rattle.cp_ops_next.specs.declared.lock_op.LockOp.TheVariants as lock
-use Rattle.cp_ops_next.specs.declared.sem_op.SemOp.TheVariants as sem
-use Rattle.cp_ops_next.specs.declared.latch_op.LatchOp.TheVariants as latch
-use Rattle.cp_ops_next.specs.declared.session_op.SessionOp.TheVariants as session
-use Rattle.cp_ops_next.specs.declared.op.Op.{Op}
-use Rattle.cp_ops_next.specs.declared.op.Op.TheVariants as op
-use Rattle.cp_ops_next.specs.declared.entry.Entry.{Entry}
-use Rattle.cp_ops_next.specs.declared.entry.Entry.TheVariants as entry
+use Rattle.cp_op_values.specs.declared.kind.Kind.TheVariants as kind
+use Rattle.cp_op_values.specs.declared.wish.Wish.TheVariants as wish
+use Rattle.cp_answers.specs.declared.answer.Answer.{Answer}
+use Rattle.cp_answers.specs.declared.answer.Answer.TheVariants as answer
+use Rattle.cp_answers.specs.declared.argument.Argument.TheVariants as argument
+use Rattle.cp_object_ops.specs.declared.long_op.LongOp.TheVariants as long
+use Rattle.cp_object_ops.specs.declared.ref_op.RefOp.TheVariants as ref
+use Rattle.cp_object_ops.specs.declared.map_op.MapOp.TheVariants as map_op
+use Rattle.cp_object_ops.specs.declared.lock_op.LockOp.TheVariants as lock
+use Rattle.cp_object_ops.specs.declared.sem_op.SemOp.TheVariants as sem
+use Rattle.cp_object_ops.specs.declared.latch_op.LatchOp.TheVariants as latch
+use Rattle.cp_ops.specs.declared.session_op.SessionOp.TheVariants as session
+use Rattle.cp_ops.specs.declared.op.Op.{Op}
+use Rattle.cp_ops.specs.declared.op.Op.TheVariants as op
+use Rattle.cp_ops.specs.declared.entry.Entry.{Entry}
+use Rattle.cp_ops.specs.declared.entry.Entry.TheVariants as entry
 use Rattle.cp_group_state.specs.GroupState.{empty}
 use Rattle.cp_group_state.specs.Apply.{run}
 use Rattle.cp_group_state.specs.History.{History}

@@ -6,18 +6,18 @@ use Rattle.std.specs.List.Sorted.{IsStrictlySortedBy}
 use Rattle.std.specs.Map.{keys_of}
 use Rattle.std.specs.Cmp.{IsTotalOrder}
 use Rattle.std.proofs.lemmas.Cmp.{nat_cmp_total, nat_list_cmp_total, on_total, then_total}
-use Rattle.cp_ops_next.specs.declared.kind.Kind.{Kind}
-use Rattle.cp_ops_next.specs.declared.kind.Kind.TheVariants as kind
+use Rattle.cp_op_values.specs.declared.kind.Kind.{Kind}
+use Rattle.cp_op_values.specs.declared.kind.Kind.TheVariants as kind
 use Rattle.cp_base.specs.declared.identifier.Invocation.{Invocation}
-use Rattle.cp_ops_next.specs.declared.answer.Answer.{Answer}
-use Rattle.cp_ops_next.specs.declared.answer.Answer.TheVariants as answer
-use Rattle.cp_ops_next.specs.declared.sem_op.SemOp.{SemOp}
-use Rattle.cp_ops_next.specs.declared.sem_op.SemOp.TheVariants as sem
-use Rattle.cp_ops_next.specs.declared.latch_op.LatchOp.{LatchOp}
-use Rattle.cp_ops_next.specs.declared.latch_op.LatchOp.TheVariants as latch
-use Rattle.cp_ops_next.specs.declared.op.Op.{Op}
-use Rattle.cp_ops_next.specs.declared.entry.Entry.{Entry}
-use Rattle.cp_ops_next.specs.declared.entry.Entry.TheVariants as entry
+use Rattle.cp_answers.specs.declared.answer.Answer.{Answer}
+use Rattle.cp_answers.specs.declared.answer.Answer.TheVariants as answer
+use Rattle.cp_object_ops.specs.declared.sem_op.SemOp.{SemOp}
+use Rattle.cp_object_ops.specs.declared.sem_op.SemOp.TheVariants as sem
+use Rattle.cp_object_ops.specs.declared.latch_op.LatchOp.{LatchOp}
+use Rattle.cp_object_ops.specs.declared.latch_op.LatchOp.TheVariants as latch
+use Rattle.cp_ops.specs.declared.op.Op.{Op}
+use Rattle.cp_ops.specs.declared.entry.Entry.{Entry}
+use Rattle.cp_ops.specs.declared.entry.Entry.TheVariants as entry
 use Rattle.cp_group_state.specs.Rows.{find, put, has_room, most, name_cmp, object_cmp, holding_cmp, holder_cmp, kind_number}
 use Rattle.cp_group_state.specs.Waiters.{Waiter, Ended, stands, ending}
 use Rattle.cp_group_state.specs.Memory.{MemoryRow, note, note_at, note_all, has_memory}
@@ -34,7 +34,7 @@ use Rattle.cp_group_state.specs.Protected.{session_in}
 use Rattle.cp_group_state.specs.Destroying.{add_gone, drop_rows}
 use Rattle.cp_group_state.specs.Closing.{forget, end_sessions}
 use Rattle.cp_group_state.specs.Rows.{pair_cmp}
-use Rattle.cp_ops_next.specs.declared.map_op.MapOp.{MapOp}
+use Rattle.cp_object_ops.specs.declared.map_op.MapOp.{MapOp}
 use Rattle.cp_group_state.specs.Maps.{Pairs, Effect, Stays, Sets, Goes, MapStep, key_of, map_effect, map_answer, with_effect, map_step}
 use Rattle.cp_group_state.specs.Invariants.{IsRising, IsOrdered, Always}
 use Rattle.cp_group_state.specs.Apply.{run}

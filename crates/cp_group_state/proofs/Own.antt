@@ -5,33 +5,33 @@ use Rattle.std.proofs.lemmas.Bool.Decides.{nat_tests}
 use Rattle.std.specs.Ordering.{nat_cmp}
 use Rattle.std.specs.List.{filter}
 use Rattle.std.proofs.lemmas.List.Elements.{All-nil}
-use Rattle.cp_ops_next.specs.declared.kind.Kind.{Kind}
-use Rattle.cp_ops_next.specs.declared.kind.Kind.TheVariants as kind
+use Rattle.cp_op_values.specs.declared.kind.Kind.{Kind}
+use Rattle.cp_op_values.specs.declared.kind.Kind.TheVariants as kind
 use Rattle.cp_base.specs.declared.identifier.Invocation.{Invocation}
-use Rattle.cp_ops_next.specs.declared.answer.Answer.{Answer}
-use Rattle.cp_ops_next.specs.declared.answer.Answer.TheVariants as answer
-use Rattle.cp_ops_next.specs.declared.wish.Wish.{Wish}
-use Rattle.cp_ops_next.specs.declared.wish.Wish.TheVariants as wish
-use Rattle.cp_ops_next.specs.declared.long_op.LongOp.{LongOp}
-use Rattle.cp_ops_next.specs.declared.long_op.LongOp.TheVariants as long
-use Rattle.cp_ops_next.specs.declared.map_op.MapOp.{MapOp}
-use Rattle.cp_ops_next.specs.declared.map_op.MapOp.TheVariants as map
+use Rattle.cp_answers.specs.declared.answer.Answer.{Answer}
+use Rattle.cp_answers.specs.declared.answer.Answer.TheVariants as answer
+use Rattle.cp_op_values.specs.declared.wish.Wish.{Wish}
+use Rattle.cp_op_values.specs.declared.wish.Wish.TheVariants as wish
+use Rattle.cp_object_ops.specs.declared.long_op.LongOp.{LongOp}
+use Rattle.cp_object_ops.specs.declared.long_op.LongOp.TheVariants as long
+use Rattle.cp_object_ops.specs.declared.map_op.MapOp.{MapOp}
+use Rattle.cp_object_ops.specs.declared.map_op.MapOp.TheVariants as map
 use Rattle.cp_base.specs.declared.identifier.ThreadNo.{ThreadNo}
 use Rattle.cp_group_state.specs.declared.rows.Holder.{Holder}
 use Rattle.cp_group_state.specs.Rows.{pair_cmp}
 use Rattle.cp_group_state.specs.Maps.{Pairs, Effect, Stays, Sets, Goes, MapStep, key_of, map_effect, map_answer, with_effect, map_step}
-use Rattle.cp_ops_next.specs.declared.ref_op.RefOp.{RefOp}
-use Rattle.cp_ops_next.specs.declared.ref_op.RefOp.TheVariants as ref
-use Rattle.cp_ops_next.specs.declared.lock_op.LockOp.{LockOp}
-use Rattle.cp_ops_next.specs.declared.lock_op.LockOp.TheVariants as lock
-use Rattle.cp_ops_next.specs.declared.sem_op.SemOp.{SemOp}
-use Rattle.cp_ops_next.specs.declared.sem_op.SemOp.TheVariants as sem
-use Rattle.cp_ops_next.specs.declared.latch_op.LatchOp.{LatchOp}
-use Rattle.cp_ops_next.specs.declared.latch_op.LatchOp.TheVariants as latch
-use Rattle.cp_ops_next.specs.declared.session_op.SessionOp.{SessionOp}
-use Rattle.cp_ops_next.specs.declared.session_op.SessionOp.TheVariants as session
-use Rattle.cp_ops_next.specs.declared.op.Op.{Op}
-use Rattle.cp_ops_next.specs.declared.op.Op.TheVariants as op
+use Rattle.cp_object_ops.specs.declared.ref_op.RefOp.{RefOp}
+use Rattle.cp_object_ops.specs.declared.ref_op.RefOp.TheVariants as ref
+use Rattle.cp_object_ops.specs.declared.lock_op.LockOp.{LockOp}
+use Rattle.cp_object_ops.specs.declared.lock_op.LockOp.TheVariants as lock
+use Rattle.cp_object_ops.specs.declared.sem_op.SemOp.{SemOp}
+use Rattle.cp_object_ops.specs.declared.sem_op.SemOp.TheVariants as sem
+use Rattle.cp_object_ops.specs.declared.latch_op.LatchOp.{LatchOp}
+use Rattle.cp_object_ops.specs.declared.latch_op.LatchOp.TheVariants as latch
+use Rattle.cp_ops.specs.declared.session_op.SessionOp.{SessionOp}
+use Rattle.cp_ops.specs.declared.session_op.SessionOp.TheVariants as session
+use Rattle.cp_ops.specs.declared.op.Op.{Op}
+use Rattle.cp_ops.specs.declared.op.Op.TheVariants as op
 use Rattle.cp_group_state.specs.Rows.{find, put, has_room, most, name_cmp, object_cmp}
 use Rattle.cp_group_state.specs.Waiters.{Waiter, Ended, waits_on}
 use Rattle.cp_group_state.specs.Sessions.{SessionRow, session_of}

@@ -7,16 +7,16 @@ use Rattle.std.proofs.lemmas.Map.Views.{All-values-insert_entry}
 use Rattle.std.specs.List.{filter}
 use Rattle.std.specs.Map.{values_of}
 use Rattle.std.specs.BTreeMap.{is_at}
-use Rattle.cp_ops_next.specs.declared.kind.Kind.{Kind}
-use Rattle.cp_ops_next.specs.declared.kind.Kind.TheVariants as kind
+use Rattle.cp_op_values.specs.declared.kind.Kind.{Kind}
+use Rattle.cp_op_values.specs.declared.kind.Kind.TheVariants as kind
 use Rattle.cp_base.specs.declared.identifier.Invocation.{Invocation}
-use Rattle.cp_ops_next.specs.declared.answer.Answer.{Answer}
-use Rattle.cp_ops_next.specs.declared.answer.Answer.TheVariants as answer
-use Rattle.cp_ops_next.specs.declared.latch_op.LatchOp.{LatchOp}
-use Rattle.cp_ops_next.specs.declared.latch_op.LatchOp.TheVariants as latch
-use Rattle.cp_ops_next.specs.declared.op.Op.{Op}
-use Rattle.cp_ops_next.specs.declared.entry.Entry.{Entry}
-use Rattle.cp_ops_next.specs.declared.entry.Entry.TheVariants as entry
+use Rattle.cp_answers.specs.declared.answer.Answer.{Answer}
+use Rattle.cp_answers.specs.declared.answer.Answer.TheVariants as answer
+use Rattle.cp_object_ops.specs.declared.latch_op.LatchOp.{LatchOp}
+use Rattle.cp_object_ops.specs.declared.latch_op.LatchOp.TheVariants as latch
+use Rattle.cp_ops.specs.declared.op.Op.{Op}
+use Rattle.cp_ops.specs.declared.entry.Entry.{Entry}
+use Rattle.cp_ops.specs.declared.entry.Entry.TheVariants as entry
 use Rattle.cp_base.specs.declared.identifier.GroupId.{GroupId}
 use Rattle.cp_group_state.specs.Rows.{find, without, name_cmp, holder_cmp, has_room, most}
 use Rattle.cp_group_state.specs.Waiters.{Waiter, Ended, stands}

@@ -4,30 +4,30 @@ use Rattle.std.specs.Prelude.{All, Contains, length, nat_lt, int_lt, pos, â„¤, â
 use Rattle.std.specs.List.{filter}
 use Rattle.std.specs.Ordering.{nat_cmp}
 use Rattle.std.proofs.lemmas.List.Elements.{All-nil, All-cons, All-map, All-filter, All-head, All-tail, All-contains_itself}
-use Rattle.cp_ops_next.specs.declared.kind.Kind.{Kind}
-use Rattle.cp_ops_next.specs.declared.kind.Kind.TheVariants as kind
+use Rattle.cp_op_values.specs.declared.kind.Kind.{Kind}
+use Rattle.cp_op_values.specs.declared.kind.Kind.TheVariants as kind
 use Rattle.cp_base.specs.declared.identifier.Invocation.{Invocation}
-use Rattle.cp_ops_next.specs.declared.answer.Answer.{Answer}
-use Rattle.cp_ops_next.specs.declared.answer.Answer.TheVariants as answer
-use Rattle.cp_ops_next.specs.declared.wish.Wish.{Wish}
-use Rattle.cp_ops_next.specs.declared.wish.Wish.TheVariants as wish
-use Rattle.cp_ops_next.specs.declared.long_op.LongOp.{LongOp}
-use Rattle.cp_ops_next.specs.declared.ref_op.RefOp.{RefOp}
-use Rattle.cp_ops_next.specs.declared.map_op.MapOp.{MapOp}
+use Rattle.cp_answers.specs.declared.answer.Answer.{Answer}
+use Rattle.cp_answers.specs.declared.answer.Answer.TheVariants as answer
+use Rattle.cp_op_values.specs.declared.wish.Wish.{Wish}
+use Rattle.cp_op_values.specs.declared.wish.Wish.TheVariants as wish
+use Rattle.cp_object_ops.specs.declared.long_op.LongOp.{LongOp}
+use Rattle.cp_object_ops.specs.declared.ref_op.RefOp.{RefOp}
+use Rattle.cp_object_ops.specs.declared.map_op.MapOp.{MapOp}
 use Rattle.cp_base.specs.declared.identifier.ClientId.{ClientId}
 use Rattle.cp_group_state.specs.declared.rows.Holder.{Holder}
 use Rattle.cp_group_state.specs.Atomics.{long_step, ref_step}
 use Rattle.cp_group_state.specs.Maps.{map_step}
-use Rattle.cp_ops_next.specs.declared.lock_op.LockOp.{LockOp}
-use Rattle.cp_ops_next.specs.declared.lock_op.LockOp.TheVariants as lock
-use Rattle.cp_ops_next.specs.declared.sem_op.SemOp.{SemOp}
-use Rattle.cp_ops_next.specs.declared.sem_op.SemOp.TheVariants as sem
-use Rattle.cp_ops_next.specs.declared.latch_op.LatchOp.{LatchOp}
-use Rattle.cp_ops_next.specs.declared.latch_op.LatchOp.TheVariants as latch
-use Rattle.cp_ops_next.specs.declared.session_op.SessionOp.{SessionOp}
-use Rattle.cp_ops_next.specs.declared.session_op.SessionOp.TheVariants as session
-use Rattle.cp_ops_next.specs.declared.op.Op.{Op}
-use Rattle.cp_ops_next.specs.declared.op.Op.TheVariants as op
+use Rattle.cp_object_ops.specs.declared.lock_op.LockOp.{LockOp}
+use Rattle.cp_object_ops.specs.declared.lock_op.LockOp.TheVariants as lock
+use Rattle.cp_object_ops.specs.declared.sem_op.SemOp.{SemOp}
+use Rattle.cp_object_ops.specs.declared.sem_op.SemOp.TheVariants as sem
+use Rattle.cp_object_ops.specs.declared.latch_op.LatchOp.{LatchOp}
+use Rattle.cp_object_ops.specs.declared.latch_op.LatchOp.TheVariants as latch
+use Rattle.cp_ops.specs.declared.session_op.SessionOp.{SessionOp}
+use Rattle.cp_ops.specs.declared.session_op.SessionOp.TheVariants as session
+use Rattle.cp_ops.specs.declared.op.Op.{Op}
+use Rattle.cp_ops.specs.declared.op.Op.TheVariants as op
 use Rattle.cp_group_state.specs.Rows.{find, put, has_room, most, name_cmp, object_cmp}
 use Rattle.cp_group_state.specs.Waiters.{Waiter, Ended, answered_by, ending, first, waits_on, same_call, stands}
 use Rattle.cp_group_state.specs.Sessions.{SessionRow, beaten, session_of, is_open_for, is_among}

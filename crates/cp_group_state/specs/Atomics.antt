@@ -2,12 +2,12 @@
 use Rattle.std.specs.Prelude.{ℕ, ℤ, pos, Bool, true, false, List, Option, Some, None, if◌then◌else◌, unwrap_or, bytes_eq}
 use Rattle.std.specs.Ordering.{int_eq}
 use Rattle.std.specs.Int.{int_wrapping_add, w64}
-use Rattle.cp_ops_next.specs.declared.answer.Answer.{Answer}
-use Rattle.cp_ops_next.specs.declared.answer.Answer.TheVariants as answer
-use Rattle.cp_ops_next.specs.declared.long_op.LongOp.{LongOp}
-use Rattle.cp_ops_next.specs.declared.long_op.LongOp.TheVariants as long
-use Rattle.cp_ops_next.specs.declared.ref_op.RefOp.{RefOp}
-use Rattle.cp_ops_next.specs.declared.ref_op.RefOp.TheVariants as ref
+use Rattle.cp_answers.specs.declared.answer.Answer.{Answer}
+use Rattle.cp_answers.specs.declared.answer.Answer.TheVariants as answer
+use Rattle.cp_object_ops.specs.declared.long_op.LongOp.{LongOp}
+use Rattle.cp_object_ops.specs.declared.long_op.LongOp.TheVariants as long
+use Rattle.cp_object_ops.specs.declared.ref_op.RefOp.{RefOp}
+use Rattle.cp_object_ops.specs.declared.ref_op.RefOp.TheVariants as ref
 use Rattle.cp_group_state.specs.Rows.{Named, find, put, has_room, most, name_cmp}
 
 -- the rows after a call on one value, and its answer

@@ -1,6 +1,6 @@
 -- Changes of the state, and the waiters that they end.
 use Rattle.std.specs.Prelude.{Bool, List, [], ◌∷◌, ◌++◌}
-use Rattle.cp_ops_next.specs.declared.answer.Answer.{Answer}
+use Rattle.cp_answers.specs.declared.answer.Answer.{Answer}
 use Rattle.cp_group_state.specs.Waiters.{Waiter, Ended, still_waiting, ending}
 use Rattle.cp_group_state.specs.Memory.{note_all}
 use Rattle.cp_group_state.specs.GroupState.{GroupState}

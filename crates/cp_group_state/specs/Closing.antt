@@ -2,7 +2,7 @@
 use Rattle.std.specs.Prelude.{ℕ, Bool, not, ◌&&◌, ◌||◌, List, bytes_eq}
 use Rattle.std.specs.List.{filter, list_any}
 use Rattle.std.specs.Map.{keys_of}
-use Rattle.cp_ops_next.specs.declared.answer.Answer.TheVariants as answer
+use Rattle.cp_answers.specs.declared.answer.Answer.TheVariants as answer
 use Rattle.cp_group_state.specs.Rows.{Object}
 use Rattle.cp_group_state.specs.Waiters.{Ended, waits_on}
 use Rattle.cp_group_state.specs.Sessions.{is_among}

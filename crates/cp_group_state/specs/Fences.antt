@@ -1,11 +1,11 @@
 -- Fences of a lock over a history.
 use Rattle.std.specs.Prelude.{◌≡◌, ℕ, ◌<◌, ◌≤◌, ◌⊎◌, false, List, map, Some, slice_get, ◌++◌, [], ◌∷◌, All, Contains}
 use Rattle.cp_base.specs.declared.identifier.Invocation.{Invocation}
-use Rattle.cp_ops_next.specs.declared.kind.Kind.TheVariants as kind
-use Rattle.cp_ops_next.specs.declared.op.Op.{Op}
-use Rattle.cp_ops_next.specs.declared.entry.Entry.TheVariants as entry
-use Rattle.cp_ops_next.specs.declared.answer.Answer.{Answer}
-use Rattle.cp_ops_next.specs.declared.answer.Answer.TheVariants as answer
+use Rattle.cp_op_values.specs.declared.kind.Kind.TheVariants as kind
+use Rattle.cp_ops.specs.declared.op.Op.{Op}
+use Rattle.cp_ops.specs.declared.entry.Entry.TheVariants as entry
+use Rattle.cp_answers.specs.declared.answer.Answer.{Answer}
+use Rattle.cp_answers.specs.declared.answer.Answer.TheVariants as answer
 use Rattle.cp_group_state.specs.Rows.{Named}
 use Rattle.cp_group_state.specs.Locks.{LockRow, lock_at, is_free}
 use Rattle.cp_group_state.specs.GroupState.{GroupState, empty}

@@ -1,11 +1,11 @@
 -- The history of a group: its entries, at the indexes 1, 2, 3 and so on.
 use Rattle.std.specs.Prelude.{◌≡◌, ℕ, ◌+◌, ◌^◌, ◌<◌, ◌≤◌, ◌⊎◌, true, List, [], ◌∷◌, ◌++◌, length, map, Option, Some, None, Contains}
-use Rattle.cp_ops_next.specs.declared.kind.Kind.TheVariants as kind
+use Rattle.cp_op_values.specs.declared.kind.Kind.TheVariants as kind
 use Rattle.cp_base.specs.declared.identifier.Invocation.{Invocation}
-use Rattle.cp_ops_next.specs.declared.answer.Answer.{Answer}
-use Rattle.cp_ops_next.specs.declared.op.Op.{Op}
-use Rattle.cp_ops_next.specs.declared.entry.Entry.{Entry}
-use Rattle.cp_ops_next.specs.declared.entry.Entry.TheVariants as entry
+use Rattle.cp_answers.specs.declared.answer.Answer.{Answer}
+use Rattle.cp_ops.specs.declared.op.Op.{Op}
+use Rattle.cp_ops.specs.declared.entry.Entry.{Entry}
+use Rattle.cp_ops.specs.declared.entry.Entry.TheVariants as entry
 use Rattle.cp_group_state.specs.Latches.{latch_at}
 use Rattle.cp_group_state.specs.GroupState.{GroupState, empty}
 use Rattle.cp_group_state.specs.Apply.{Applied, apply, run}

@@ -1,13 +1,13 @@
 -- What holds of the state of a group after every history.
 use Rattle.std.specs.Prelude.{◌<◌, is_some}
-use Rattle.cp_ops_next.specs.declared.kind.Kind.TheVariants as kind
+use Rattle.cp_op_values.specs.declared.kind.Kind.TheVariants as kind
 use Rattle.std.specs.Prelude.{List, [], ◌∷◌, All, false}
 use Rattle.cp_group_state.specs.Fences.{states}
 use Rattle.std.specs.declared.cmp.Ordering.{Ordering}
 use Rattle.std.specs.Ordering.{nat_cmp}
 use Rattle.std.specs.Map.{keys_of}
 use Rattle.std.specs.List.Sorted.{IsStrictlySortedBy}
-use Rattle.cp_ops_next.specs.declared.entry.Entry.{Entry}
+use Rattle.cp_ops.specs.declared.entry.Entry.{Entry}
 use Rattle.cp_group_state.specs.Rows.{Named, Object, find, name_cmp, object_cmp, holding_cmp, holder_cmp, pair_cmp}
 use Rattle.std.specs.Prelude.{true, ◌≡◌, ℕ}
 use Rattle.std.specs.Map.{values_of}

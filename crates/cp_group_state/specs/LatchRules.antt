@@ -1,11 +1,11 @@
 -- Latches.
 use Rattle.std.specs.Prelude.{ℕ, true, List}
-use Rattle.cp_ops_next.specs.declared.kind.Kind.TheVariants as kind
+use Rattle.cp_op_values.specs.declared.kind.Kind.TheVariants as kind
 use Rattle.cp_base.specs.declared.identifier.Invocation.{Invocation}
-use Rattle.cp_ops_next.specs.declared.wish.Wish.TheVariants as wish
-use Rattle.cp_ops_next.specs.declared.answer.Answer.TheVariants as answer
-use Rattle.cp_ops_next.specs.declared.latch_op.LatchOp.{LatchOp}
-use Rattle.cp_ops_next.specs.declared.latch_op.LatchOp.TheVariants as latch
+use Rattle.cp_op_values.specs.declared.wish.Wish.TheVariants as wish
+use Rattle.cp_answers.specs.declared.answer.Answer.TheVariants as answer
+use Rattle.cp_object_ops.specs.declared.latch_op.LatchOp.{LatchOp}
+use Rattle.cp_object_ops.specs.declared.latch_op.LatchOp.TheVariants as latch
 use Rattle.cp_group_state.specs.Waiters.{waits_on}
 use Rattle.cp_group_state.specs.Latches.{LatchOutcome, latch_step}
 use Rattle.cp_group_state.specs.Latches as countdown

@@ -1,12 +1,12 @@
 -- Locks.
 use Rattle.std.specs.Prelude.{ℕ, List, if◌then◌else◌}
-use Rattle.cp_ops_next.specs.declared.kind.Kind.TheVariants as kind
+use Rattle.cp_op_values.specs.declared.kind.Kind.TheVariants as kind
 use Rattle.cp_base.specs.declared.identifier.Invocation.{Invocation}
-use Rattle.cp_ops_next.specs.declared.wish.Wish.{Wish}
-use Rattle.cp_ops_next.specs.declared.answer.Answer.{Answer}
-use Rattle.cp_ops_next.specs.declared.answer.Answer.TheVariants as answer
-use Rattle.cp_ops_next.specs.declared.lock_op.LockOp.{LockOp}
-use Rattle.cp_ops_next.specs.declared.lock_op.LockOp.TheVariants as lock
+use Rattle.cp_op_values.specs.declared.wish.Wish.{Wish}
+use Rattle.cp_answers.specs.declared.answer.Answer.{Answer}
+use Rattle.cp_answers.specs.declared.answer.Answer.TheVariants as answer
+use Rattle.cp_object_ops.specs.declared.lock_op.LockOp.{LockOp}
+use Rattle.cp_object_ops.specs.declared.lock_op.LockOp.TheVariants as lock
 use Rattle.cp_group_state.specs.Rows.{most}
 use Rattle.cp_group_state.specs.Waiters.{Waiter}
 use Rattle.cp_group_state.specs.Locks.{LockRow, Taken, Fence, Limit, Full, Busy, Released, Freed, Kept, NotOwner, acquired, released_by, lock_at, is_free}

@@ -1,10 +1,10 @@
 -- Maps: the pairs of a key and its value, under the name of the map.
 use Rattle.std.specs.Prelude.{ℕ, Bool, false, not, List, Option, Some, None, if◌then◌else◌, bytes_eq}
 use Rattle.std.specs.List.{filter}
-use Rattle.cp_ops_next.specs.declared.answer.Answer.{Answer}
-use Rattle.cp_ops_next.specs.declared.answer.Answer.TheVariants as answer
-use Rattle.cp_ops_next.specs.declared.map_op.MapOp.{MapOp}
-use Rattle.cp_ops_next.specs.declared.map_op.MapOp.TheVariants as map
+use Rattle.cp_answers.specs.declared.answer.Answer.{Answer}
+use Rattle.cp_answers.specs.declared.answer.Answer.TheVariants as answer
+use Rattle.cp_object_ops.specs.declared.map_op.MapOp.{MapOp}
+use Rattle.cp_object_ops.specs.declared.map_op.MapOp.TheVariants as map
 use Rattle.cp_group_state.specs.Rows.{find, put, without, has_room, most, pair_cmp}
 
 abbrev pub Pairs : Type 0

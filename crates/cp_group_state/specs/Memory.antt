@@ -1,8 +1,8 @@
 -- For each thread of a session the last call that is answered once, with its answer, or none while it waits.
 use Rattle.std.specs.Prelude.{ℕ, Bool, true, false, ◌==◌, List, [], ◌∷◌, Option, Some, None, if◌then◌else◌}
-use Rattle.cp_ops_next.specs.declared.kind.Kind.{Kind}
-use Rattle.cp_ops_next.specs.declared.kind.Kind.TheVariants as kind
-use Rattle.cp_ops_next.specs.declared.answer.Answer.{Answer}
+use Rattle.cp_op_values.specs.declared.kind.Kind.{Kind}
+use Rattle.cp_op_values.specs.declared.kind.Kind.TheVariants as kind
+use Rattle.cp_answers.specs.declared.answer.Answer.{Answer}
 use Rattle.cp_base.specs.declared.identifier.ThreadNo.{ThreadNo}
 use Rattle.cp_group_state.specs.Rows.{find, put, holder_cmp}
 use Rattle.cp_group_state.specs.Waiters.{Ended}

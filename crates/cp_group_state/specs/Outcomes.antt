@@ -1,9 +1,9 @@
 -- What the rule of an operation leads to.
 use Rattle.std.specs.Prelude.{◌==◌, if◌then◌else◌}
-use Rattle.cp_ops_next.specs.declared.wish.Wish.{Wish}
-use Rattle.cp_ops_next.specs.declared.wish.Wish.TheVariants as wish
-use Rattle.cp_ops_next.specs.declared.answer.Answer.{Answer}
-use Rattle.cp_ops_next.specs.declared.answer.Answer.TheVariants as answer
+use Rattle.cp_op_values.specs.declared.wish.Wish.{Wish}
+use Rattle.cp_op_values.specs.declared.wish.Wish.TheVariants as wish
+use Rattle.cp_answers.specs.declared.answer.Answer.{Answer}
+use Rattle.cp_answers.specs.declared.answer.Answer.TheVariants as answer
 use Rattle.cp_group_state.specs.Waiters.{Waiter}
 use Rattle.cp_group_state.specs.GroupState.{GroupState}
 use Rattle.cp_group_state.specs.Changes.{Change, stay}

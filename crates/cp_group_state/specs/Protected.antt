@@ -1,13 +1,13 @@
 -- The protected calls, which act at most once: those that name a session, and the countdowns of a latch.
 use Rattle.std.specs.Prelude.{ℕ, Bool, ◌||◌, List, Option, Some, None, is_some}
-use Rattle.cp_ops_next.specs.declared.lock_op.LockOp.{LockOp}
-use Rattle.cp_ops_next.specs.declared.lock_op.LockOp.TheVariants as lock
-use Rattle.cp_ops_next.specs.declared.sem_op.SemOp.{SemOp}
-use Rattle.cp_ops_next.specs.declared.sem_op.SemOp.TheVariants as sem
-use Rattle.cp_ops_next.specs.declared.op.Op.{Op}
-use Rattle.cp_ops_next.specs.declared.op.Op.TheVariants as op
-use Rattle.cp_ops_next.specs.declared.latch_op.LatchOp.{LatchOp}
-use Rattle.cp_ops_next.specs.declared.latch_op.LatchOp.TheVariants as latch
+use Rattle.cp_object_ops.specs.declared.lock_op.LockOp.{LockOp}
+use Rattle.cp_object_ops.specs.declared.lock_op.LockOp.TheVariants as lock
+use Rattle.cp_object_ops.specs.declared.sem_op.SemOp.{SemOp}
+use Rattle.cp_object_ops.specs.declared.sem_op.SemOp.TheVariants as sem
+use Rattle.cp_ops.specs.declared.op.Op.{Op}
+use Rattle.cp_ops.specs.declared.op.Op.TheVariants as op
+use Rattle.cp_object_ops.specs.declared.latch_op.LatchOp.{LatchOp}
+use Rattle.cp_object_ops.specs.declared.latch_op.LatchOp.TheVariants as latch
 
 abbrev pub session_of_lock : LockOp → Option ℕ
 session_of_lock lock.Owner = None

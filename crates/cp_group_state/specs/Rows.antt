@@ -5,8 +5,8 @@ use Rattle.std.specs.Ordering.{nat_cmp, ordering_then}
 use Rattle.std.specs.Cmp.Lexicographic.{slice_cmp}
 use Rattle.std.specs.BTreeMap.{insert_entry, is_at}
 use Rattle.std.specs.Map.{lookup, remove_entry}
-use Rattle.cp_ops_next.specs.declared.kind.Kind.{Kind}
-use Rattle.cp_ops_next.specs.declared.kind.Kind.TheVariants as kind
+use Rattle.cp_op_values.specs.declared.kind.Kind.{Kind}
+use Rattle.cp_op_values.specs.declared.kind.Kind.TheVariants as kind
 
 module _ {K X : Type 0} (cmp : K → K → Ordering) where
   -- the row under a key

@@ -1,9 +1,9 @@
 -- Semaphores.
 use Rattle.std.specs.Prelude.{Bool, true, false, ◌&&◌, if◌then◌else◌, is_some}
 use Rattle.cp_base.specs.declared.identifier.Invocation.{Invocation}
-use Rattle.cp_ops_next.specs.declared.answer.Answer.TheVariants as answer
-use Rattle.cp_ops_next.specs.declared.sem_op.SemOp.{SemOp}
-use Rattle.cp_ops_next.specs.declared.sem_op.SemOp.TheVariants as sem
+use Rattle.cp_answers.specs.declared.answer.Answer.TheVariants as answer
+use Rattle.cp_object_ops.specs.declared.sem_op.SemOp.{SemOp}
+use Rattle.cp_object_ops.specs.declared.sem_op.SemOp.TheVariants as sem
 use Rattle.cp_group_state.specs.Rows.{Object, find, object_cmp}
 use Rattle.cp_group_state.specs.Waiters.{first_on}
 use Rattle.cp_group_state.specs.Semaphores.{SemOutcome, sem_step}

@@ -1,13 +1,13 @@
 -- Semaphores: those whose permits a session holds, and those without sessions.
 use Rattle.std.specs.Prelude.{ℕ, ◌+◌, ◌-◌, ◌^◌, ℤ, pos, negsuc, neg_ℤ, ◌+ℤ◌, ◌-ℤ◌, int_lt, Bool, true, false, not, ◌&&◌, ◌==◌, List, [], ◌∷◌, map, sum, Option, Some, None, if◌then◌else◌, nat_lt, unwrap_or, bytes_eq}
 use Rattle.std.specs.List.{filter}
-use Rattle.cp_ops_next.specs.declared.kind.Kind.{Kind}
-use Rattle.cp_ops_next.specs.declared.kind.Kind.TheVariants as kind
-use Rattle.cp_ops_next.specs.declared.answer.Answer.{Answer}
-use Rattle.cp_ops_next.specs.declared.answer.Answer.TheVariants as answer
-use Rattle.cp_ops_next.specs.declared.argument.Argument.TheVariants as argument
-use Rattle.cp_ops_next.specs.declared.sem_op.SemOp.{SemOp}
-use Rattle.cp_ops_next.specs.declared.sem_op.SemOp.TheVariants as sem
+use Rattle.cp_op_values.specs.declared.kind.Kind.{Kind}
+use Rattle.cp_op_values.specs.declared.kind.Kind.TheVariants as kind
+use Rattle.cp_answers.specs.declared.answer.Answer.{Answer}
+use Rattle.cp_answers.specs.declared.answer.Answer.TheVariants as answer
+use Rattle.cp_answers.specs.declared.argument.Argument.TheVariants as argument
+use Rattle.cp_object_ops.specs.declared.sem_op.SemOp.{SemOp}
+use Rattle.cp_object_ops.specs.declared.sem_op.SemOp.TheVariants as sem
 use Rattle.cp_group_state.specs.Rows.{Object, find, put, without, has_room, most, object_cmp, holding_cmp}
 use Rattle.cp_group_state.specs.Waiters.{Waiter, waits_on}
 use Rattle.cp_group_state.specs.Sessions.{is_among}

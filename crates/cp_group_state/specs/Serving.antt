@@ -2,8 +2,8 @@
 use Rattle.std.specs.Prelude.{ℕ, List, [], ◌∷◌, map, Option, Some, None}
 use Rattle.std.specs.List.{filter, list_any}
 use Rattle.std.specs.Map.{keys_of}
-use Rattle.cp_ops_next.specs.declared.kind.Kind.TheVariants as kind
-use Rattle.cp_ops_next.specs.declared.answer.Answer.TheVariants as answer
+use Rattle.cp_op_values.specs.declared.kind.Kind.TheVariants as kind
+use Rattle.cp_answers.specs.declared.answer.Answer.TheVariants as answer
 use Rattle.cp_group_state.specs.Rows.{Object, find, put, name_cmp, object_cmp}
 use Rattle.cp_group_state.specs.Waiters.{Waiter, Ended, waits_on, first_on, answered_by}
 use Rattle.cp_group_state.specs.Locks.{held_once}

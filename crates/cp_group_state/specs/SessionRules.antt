@@ -2,9 +2,9 @@
 use Rattle.std.specs.Prelude.{ℕ, [], ◌∷◌, Option, Some, None, if◌then◌else◌, is_some}
 use Rattle.std.specs.Ordering.{nat_cmp}
 use Rattle.cp_base.specs.declared.identifier.Invocation.{Invocation}
-use Rattle.cp_ops_next.specs.declared.answer.Answer.TheVariants as answer
-use Rattle.cp_ops_next.specs.declared.session_op.SessionOp.{SessionOp}
-use Rattle.cp_ops_next.specs.declared.session_op.SessionOp.TheVariants as session
+use Rattle.cp_answers.specs.declared.answer.Answer.TheVariants as answer
+use Rattle.cp_ops.specs.declared.session_op.SessionOp.{SessionOp}
+use Rattle.cp_ops.specs.declared.session_op.SessionOp.TheVariants as session
 use Rattle.cp_group_state.specs.Rows.{find, put, has_room, most}
 use Rattle.cp_group_state.specs.Sessions.{SessionRow, session_of, beaten}
 use Rattle.cp_group_state.specs.GroupState.{GroupState}

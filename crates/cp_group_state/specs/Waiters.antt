@@ -1,10 +1,10 @@
 -- Calls that wait, in order of arrival.
 use Rattle.std.specs.Prelude.{ℕ, Bool, not, ◌&&◌, ◌==◌, List, [], ◌∷◌, map, Option, Some, None, bytes_eq}
 use Rattle.std.specs.List.{filter, list_any}
-use Rattle.cp_ops_next.specs.declared.kind.Kind.{Kind}
+use Rattle.cp_op_values.specs.declared.kind.Kind.{Kind}
 use Rattle.cp_base.specs.declared.identifier.ClientId.{ClientId}
 use Rattle.cp_base.specs.declared.identifier.Invocation.{Invocation}
-use Rattle.cp_ops_next.specs.declared.answer.Answer.{Answer}
+use Rattle.cp_answers.specs.declared.answer.Answer.{Answer}
 use Rattle.cp_group_state.specs.Rows.{kind_number}
 pub use Rattle.cp_group_state.specs.declared.rows.Waiter.{Waiter}
 

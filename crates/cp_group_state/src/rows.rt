@@ -1,6 +1,6 @@
 //! The rows of a group's lists.
 use cp_base::{ClientId, Invocation, Items, Name, ThreadNo};
-use cp_ops_next::{Answer, Kind, Wish};
+use cp_ops::{Answer, Kind, Wish};
 
 /// A thread of a session, which holds a lock.
 #[derive(Clone, Copy, Debug, PartialEq, Eq)]

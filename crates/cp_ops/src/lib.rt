@@ -1,14 +1,24 @@
-//! Operations, answers and entries, and their texts.
+//! Operations and entries, with the types of their parts, and with answers and refusals.
 #![tactic(auto)]
 
-mod answer;
+mod change_op;
 mod entry;
+mod entry_values;
+mod group_op;
+mod member_op;
 mod op;
+mod session_op;
 #[cfg(test)]
 mod tests;
-mod user_op;
 
-pub use answer::Answer;
-pub use entry::Entry;
-pub use op::{LongOp, Op};
-pub use user_op::UserOp;
+pub use change_op::ChangeOp;
+pub use cp_answers::{
+    Answer, Argument, EndedBy, Refusal, no_answer_begins_another, no_refusal_begins_another,
+};
+pub use cp_object_ops::{LatchOp, LockOp, LongOp, MapOp, RefOp, SemOp};
+pub use cp_op_values::{Kind, Wish};
+pub use entry::{Entry, no_entry_begins_another};
+pub use group_op::GroupOp;
+pub use member_op::MemberOp;
+pub use op::{Op, no_op_begins_another};
+pub use session_op::SessionOp;

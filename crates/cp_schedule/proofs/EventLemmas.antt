@@ -7,9 +7,9 @@ use Rattle.std.proofs.lemmas.Fmt.{decimal_digit}
 use Rattle.std.proofs.lemmas.Bool.Decides.{nat_tests}
 use Rattle.cp_words.specs.Text.{Lacks}
 use Rattle.cp_base.specs.Names.{IsName, is_name_byte}
-use Rattle.cp_ops.specs.declared.op.LongOp.{LongOp}
-use Rattle.cp_ops.specs.declared.user_op.UserOp.TheVariants as user
-use Rattle.cp_ops.specs.Ops.{long_op_text}
+use Rattle.cp_long_ops.specs.declared.op.LongOp.{LongOp}
+use Rattle.cp_long_ops.specs.declared.user_op.UserOp.TheVariants as user
+use Rattle.cp_long_ops.specs.Ops.{long_op_text}
 use Rattle.cp_schedule.specs.declared.schedule.Event.{Event}
 use Rattle.cp_schedule.specs.declared.schedule.Event.TheVariants as event
 use Rattle.cp_schedule.specs.Schedules.{IsEvent, IsLongOp, event_text}

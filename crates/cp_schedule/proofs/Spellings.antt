@@ -10,10 +10,10 @@ use Rattle.cp_words.specs.Text.{Lacks, line}
 use Rattle.cp_base.specs.declared.identifier.ClientNo.{ClientNo}
 use Rattle.cp_base.specs.declared.identifier.ThreadNo.{ThreadNo}
 use Rattle.cp_base.specs.Names.{is_name_byte}
-use Rattle.cp_ops.specs.declared.op.LongOp.{LongOp}
-use Rattle.cp_ops.specs.declared.op.LongOp.TheVariants as long
-use Rattle.cp_ops.specs.declared.user_op.UserOp.TheVariants as user
-use Rattle.cp_ops.specs.Ops.{long_op_text}
+use Rattle.cp_long_ops.specs.declared.op.LongOp.{LongOp}
+use Rattle.cp_long_ops.specs.declared.op.LongOp.TheVariants as long
+use Rattle.cp_long_ops.specs.declared.user_op.UserOp.TheVariants as user
+use Rattle.cp_long_ops.specs.Ops.{long_op_text}
 use Rattle.cp_schedule.specs.declared.schedule.Event.{Event}
 use Rattle.cp_schedule.specs.declared.schedule.Event.TheVariants as event
 use Rattle.cp_schedule.specs.declared.schedule.Schedule.{Schedule}

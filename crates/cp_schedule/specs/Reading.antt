@@ -1,7 +1,7 @@
 -- What the readers of parts of a line give: what the bytes spell, or none where they spell nothing.
 use Rattle.std.specs.Prelude.{◌≡◌, ◌≢◌, ℕ, List, Option, Some, None}
-use Rattle.cp_ops.specs.declared.op.LongOp.{LongOp}
-use Rattle.cp_ops.specs.Ops.{long_op_text}
+use Rattle.cp_long_ops.specs.declared.op.LongOp.{LongOp}
+use Rattle.cp_long_ops.specs.Ops.{long_op_text}
 use Rattle.cp_schedule.specs.declared.schedule.Event.{Event}
 use Rattle.cp_schedule.specs.Schedules.{IsLongOp, IsEvent, event_text}
 

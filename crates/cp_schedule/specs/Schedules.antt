@@ -6,11 +6,11 @@ use Rattle.std.specs.Fmt.{decimal}
 use Rattle.std.specs.List.{AllByRecursion, flat_map}
 use Rattle.cp_words.specs.Text.{line}
 use Rattle.cp_base.specs.Names.{IsName}
-use Rattle.cp_ops.specs.declared.op.LongOp.{LongOp}
-use Rattle.cp_ops.specs.declared.op.LongOp.TheVariants as long
-use Rattle.cp_ops.specs.declared.user_op.UserOp.{UserOp}
-use Rattle.cp_ops.specs.declared.user_op.UserOp.TheVariants as user
-use Rattle.cp_ops.specs.Ops.{user_op_text}
+use Rattle.cp_long_ops.specs.declared.op.LongOp.{LongOp}
+use Rattle.cp_long_ops.specs.declared.op.LongOp.TheVariants as long
+use Rattle.cp_long_ops.specs.declared.user_op.UserOp.{UserOp}
+use Rattle.cp_long_ops.specs.declared.user_op.UserOp.TheVariants as user
+use Rattle.cp_long_ops.specs.Ops.{user_op_text}
 use Rattle.cp_schedule.specs.declared.schedule.Event.{Event}
 use Rattle.cp_schedule.specs.declared.schedule.Event.TheVariants as event
 use Rattle.cp_schedule.specs.declared.schedule.Schedule.{Schedule}

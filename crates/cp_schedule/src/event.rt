@@ -5,7 +5,7 @@ ghost use Rattle.cp_schedule.specs.Reading.{ReadsEvent, ReadsLongOp};
 use crate::schedule::Event;
 use crate::words::{behind, is};
 use cp_base::{ClientNo, Name, NameError, NoMemory, ThreadNo, read_signed, split_at_byte};
-use cp_ops::{LongOp, UserOp};
+use cp_long_ops::{LongOp, UserOp};
 use std::alloc::Global;
 
 /// The operation on a long that these bytes spell, if they spell one.

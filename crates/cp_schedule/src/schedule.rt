@@ -1,6 +1,6 @@
 //! A schedule and its events.
 use cp_base::{ClientNo, Items, NoMemory, Text, ThreadNo, write_decimal};
-use cp_ops::UserOp;
+use cp_long_ops::UserOp;
 
 /// One atomic step of a replay.
 #[derive(Clone, Debug, PartialEq, Eq, Drop)]

@@ -1,7 +1,7 @@
 use super::*;
 use crate::ScheduleError::{BadSchedule, NotBuilt};
 use cp_base::{ClientNo, Items, Name, Text, ThreadNo};
-use cp_ops::{LongOp, UserOp};
+use cp_long_ops::{LongOp, UserOp};
 use std::test::*;
 
 const HEADER: &str = "cp 1\nmembers 0\nsize 1\nclients 1\n";

@@ -3,9 +3,9 @@ use Rattle.std.proofs.Common.{◌≡◌, ℕ, ◌+◌, List, [], ◌∷◌, ◌+
 use Rattle.std.specs.List.{flat_map}
 use Rattle.cp_base.specs.declared.identifier.ClientNo.{ClientNo}
 use Rattle.cp_base.specs.declared.identifier.ThreadNo.{ThreadNo}
-use Rattle.cp_ops.specs.declared.entry.Entry.TheVariants as entry
-use Rattle.cp_ops.specs.declared.user_op.UserOp.{UserOp}
-use Rattle.cp_ops.specs.Ops.{requested}
+use Rattle.cp_long_ops.specs.declared.entry.Entry.TheVariants as entry
+use Rattle.cp_long_ops.specs.declared.user_op.UserOp.{UserOp}
+use Rattle.cp_long_ops.specs.Ops.{requested}
 use Rattle.cp_schedule.specs.declared.schedule.Event.{Event}
 use Rattle.cp_schedule.specs.declared.schedule.Event.TheVariants as event
 use Rattle.cp_execution.specs.Group.{Applied, apply}

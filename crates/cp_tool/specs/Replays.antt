@@ -5,12 +5,12 @@ use Rattle.cp_base.specs.declared.identifier.ClientNo.{ClientNo}
 use Rattle.cp_base.specs.declared.identifier.ThreadNo.{ThreadNo}
 use Rattle.cp_base.specs.declared.identifier.Invocation.{Invocation}
 use Rattle.cp_base.specs.Identifiers.{replay_id}
-use Rattle.cp_ops.specs.declared.user_op.UserOp.{UserOp}
-use Rattle.cp_ops.specs.Ops.{requested}
-use Rattle.cp_ops.specs.declared.answer.Answer.{Answer}
-use Rattle.cp_ops.specs.declared.entry.Entry.{Entry}
-use Rattle.cp_ops.specs.declared.entry.Entry.TheVariants as entry
-use Rattle.cp_atomic.specs.Longs.{Rows}
+use Rattle.cp_long_ops.specs.declared.user_op.UserOp.{UserOp}
+use Rattle.cp_long_ops.specs.Ops.{requested}
+use Rattle.cp_long_ops.specs.declared.answer.Answer.{Answer}
+use Rattle.cp_long_ops.specs.declared.entry.Entry.{Entry}
+use Rattle.cp_long_ops.specs.declared.entry.Entry.TheVariants as entry
+use Rattle.cp_longs.specs.Longs.{Rows}
 use Rattle.cp_execution.specs.Group.{Applied, apply}
 use Rattle.cp_execution.specs.Execution.{World}
 use Rattle.cp_execution.specs.Transcript.{opening, effects_lines, return_line, committed_line, committed_lines}

@@ -7,9 +7,9 @@ ghost use Rattle.cp_execution.specs.Group.{apply};
 ghost use Rattle.cp_tool.specs.Replays.{Follows, IsCall, answered};
 ghost use Rattle.cp_execution.specs.Transcript.{committed_line, event_line, return_line, transcript_of};
 
-use cp_atomic::Longs;
 use cp_base::{ClientId, ClientNo, Invocation, NoMemory, Text, ThreadNo, write_decimal};
-use cp_ops::{Answer, Entry, Op, UserOp};
+use cp_long_ops::{Answer, Entry, Op, UserOp};
+use cp_longs::Longs;
 use cp_schedule::{Event, Schedule};
 use std::alloc::Global;
 

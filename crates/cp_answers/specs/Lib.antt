@@ -1,0 +1,5 @@
+pub mod Arguments
+pub mod EndedBys
+pub mod Answers
+pub mod Refusals
+pub mod Laws

@@ -1,0 +1,10 @@
+use Rattle.std.proofs.Common.{◌≡◌, ◌++◌, length, ℕ}
+use Rattle.cp_words.specs.Text.{Grew}
+use Rattle.cp_ops.specs.EntryValues.{pairs_text}
+use Rattle.cp_ops.proofs.entry_values.append_pairs_text.Given as goal
+
+abbrev pub invariant-loop-rest : goal.invariant-loop-rest
+invariant-loop-rest l = (l.out.items ++ pairs_text l.rest ≡ l.fn.out.items ++ pairs_text l.pairs) × Grew l.fn.out.items l.out.items
+
+abbrev pub decreases-loop-rest : goal.decreases-loop-rest
+decreases-loop-rest l = length l.rest
