@@ -1,0 +1,8 @@
+//! What a group of members applies its entries to: the trait of lawful machines.
+#![tactic(auto)]
+
+mod machine;
+mod timer;
+
+pub use machine::Machine;
+pub use timer::{Timed, Timer};
