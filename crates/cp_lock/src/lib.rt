@@ -1,0 +1,14 @@
+//! Reentrant locks with fences.
+#![tactic(auto)]
+
+mod close;
+mod locks;
+mod meet;
+mod outcome;
+mod rows;
+mod session_set;
+#[cfg(test)]
+mod tests;
+
+pub use locks::Locks;
+pub use outcome::{LockError, Released, Taken};
