@@ -5,6 +5,8 @@ mod body;
 mod message;
 mod request;
 mod task;
+#[cfg(test)]
+mod tests;
 
 pub use body::Body;
 pub use message::{Message, no_message_begins_another};

@@ -68,7 +68,11 @@ fn most_kind(version: u8) -> u8
 fn most_entry(version: u8) -> u32
     ensures { result ≡ most_entry version }
 {
-    if version == 1 { OLDER_MOST_ENTRY } else { MOST_ENTRY }
+    if version == 1 {
+        OLDER_MOST_ENTRY
+    } else {
+        MOST_ENTRY
+    }
 }
 
 #[tactic(auto, unfolding(crate::specs::Messages::headed))]
@@ -145,6 +149,8 @@ impl Message {
         ensures exact { Tells result (message_told bytes.now) }
         // What is read is spelled so, in some version.
         ensures found { IfOk result (λ value. (version : ℕ) × Spells version value bytes.now) }
+        // What is read can be written.
+        ensures fits { IfOk result (λ value. message_grammar.Fits value) }
         // What is spelled so is read, unless memory runs out.
         ensures only { (version : ℕ) (value : Message) → Spells version value bytes.now → Tells result (Ok value) }
     {

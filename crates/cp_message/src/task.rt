@@ -115,7 +115,11 @@ impl Spelled for TaskReply {
 }
 
 /// Appends a group and members, each after a space.
-pub fn append_start_text(group: GroupId, list: &Items<u8>, out: &mut Vec<u8>) -> Result<(), NoMemory>
+pub fn append_start_text(
+    group: GroupId,
+    list: &Items<u8>,
+    out: &mut Vec<u8>,
+) -> Result<(), NoMemory>
     ensures ok { OnOk result (out.new.items ≡ out.old.items ++ start_text group list.now) }
     ensures grew { Grew out.old.items out.new.items }
 {
