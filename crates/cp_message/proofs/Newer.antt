@@ -9,7 +9,7 @@ use Rattle.cp_message.specs.declared.body.Body.TheVariants as bodies
 use Rattle.cp_message.specs.declared.message.Message.{Message}
 use Rattle.cp_message.specs.Requests.{request_within, reply_within}
 use Rattle.cp_message.specs.Bodies.{kind_of, body_within}
-use Rattle.cp_message.specs.Messages.{most_kind, most_entry, headed, fields, message_grammar}
+use Rattle.cp_message.specs.Messages.{most_entry, headed, fields, message_grammar}
 
 request_fits : (a b : ℕ) → a ≤ b → (x : Request) → (request_within a).Fits x → (request_within b).Fits x
 unfolding request_within

@@ -1,5 +1,5 @@
 -- What is spelled in some version is read, and what is read is spelled so.
-use Rattle.std.proofs.Common.{◌≡◌, ℕ, List, Result, Ok, Err, ap, sym, refl, arith, ◌∙◌}
+use Rattle.std.proofs.Common.{◌≡◌, ℕ, List, Result, Ok, ap, sym, refl, arith, ◌∙◌}
 use Rattle.std.specs.List.{AllByRecursion}
 use Rattle.cp_codec.specs.Exact.{IsByte}
 use Rattle.cp_grammar.specs.Grammar.{whole}

@@ -4,10 +4,10 @@ ghost use Rattle.cp_spelling.specs.Readers.{Reads};
 ghost use Rattle.cp_raft_message.specs.Laws.{append_newest_lawful, append_reply_lawful};
 ghost use Rattle.cp_raft_message.specs.Appends.{append_within, append_newest, append_reply};
 
-use crate::entries::{LogEntry, MOST_ENTRY, append_entries_after, take_entries_after};
+use crate::entries::{LogEntry, MOST_ENTRY, take_entries_after};
 use crate::text::{append_numbers_text, append_yes_text};
 use cp_base::{GroupId, Items, NoMemory, Text};
-use cp_spelling::{Spelled, Stop, append_flag, append_index, take_flag, take_index};
+use cp_spelling::{Spelled, Stop, append_flag, append_index, append_list, take_flag, take_index};
 use std::alloc::Global;
 
 /// Hands entries to a follower.
@@ -71,14 +71,14 @@ impl Spelled for Append {
         Append::take_within(alloc, MOST_ENTRY, bytes)
     }
 
-    #[tactic(auto, unfolding(crate::specs::Appends::append_within))]
+    #[tactic(auto, unfolding(crate::specs::Appends::append_within, crate::specs::Entries::entries_after))]
     fn append(&self, out: &mut Vec<u8>) -> Result<(), NoMemory> {
         self.group.append(out)?;
         append_index(self.term, out)?;
         append_index(self.previous_index, out)?;
         append_index(self.previous_term, out)?;
         append_index(self.commit, out)?;
-        append_entries_after(self.previous_index, &self.entries, out)?;
+        append_list(self.entries.as_slice(), out)?;
         Ok(())
     }
 

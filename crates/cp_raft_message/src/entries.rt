@@ -7,8 +7,7 @@ ghost use Rattle.cp_raft_message.specs.Entries.{log_entry, entries_after};
 
 use cp_base::{Items, NoMemory};
 use cp_spelling::{
-    Item, MOST_INDEX, Stop, append_bytes, append_index, append_list, take_bytes, take_index,
-    take_u32,
+    Item, MOST_INDEX, Stop, append_bytes, append_index, take_bytes, take_index, take_u32,
 };
 use std::alloc::Global;
 
@@ -111,17 +110,4 @@ pub fn take_entries_after(
 {
     let (count, rest) = take_u32(bytes, most_entries_after(previous))?;
     take_entries(alloc, most, count, rest)
-}
-
-/// Appends the count of entries, and the entries.
-#[tactic(auto, unfolding(crate::specs::Entries::entries_after))]
-pub fn append_entries_after(
-    previous: u64,
-    entries: &Items<LogEntry>,
-    out: &mut Vec<u8>,
-) -> Result<(), NoMemory>
-    requires { (entries_after 8192 previous).Fits entries.now }
-    ensures { OnOk result (out.new.items ≡ out.old.items ++ (entries_after 8192 previous).spelling entries.now) }
-{
-    append_list(entries.as_slice(), out)
 }

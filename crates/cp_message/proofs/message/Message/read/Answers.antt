@@ -1,4 +1,4 @@
-use Rattle.std.proofs.Common.{arith, ap, sym, ◌∙◌, Ok, ℕ}
+use Rattle.std.proofs.Common.{arith}
 use Rattle.cp_codec.proofs.Wide.{bytes_from}
 use Rattle.cp_grammar.specs.Grammar.{whole}
 use Rattle.cp_message.specs.declared.message.Message.{Message}
