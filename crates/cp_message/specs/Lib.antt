@@ -1,0 +1,5 @@
+pub mod Requests
+pub mod Tasks
+pub mod Bodies
+pub mod Messages
+pub mod Laws
