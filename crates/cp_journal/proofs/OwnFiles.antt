@@ -1,12 +1,11 @@
 -- Each image of a disk that a journal alone wrote spells records.
-use Rattle.std.proofs.Common.{◌≡◌, ◌≤◌, ℕ, List, [], ◌∷◌, ◌++◌, inl, inr, ⊎_elim, refl, sym, ◌∙◌, ap, subst}
+use Rattle.std.proofs.Common.{◌≡◌, ◌≤◌, ℕ, List, [], ◌∷◌, ◌++◌, ⊎_elim, sym, ◌∙◌, ap, subst}
 use Rattle.std.specs.Prelude.{◌≢◌, Ok, Err}
 use Rattle.cp_disk.specs.declared.disk.Disk.{Ghosts}
 use Rattle.cp_journal.specs.declared.error.JournalError.{JournalError}
 use Rattle.cp_journal.specs.declared.error.JournalError.TheVariants as error
 use Rattle.cp_journal.specs.Errors.{OpenCause}
-use Rattle.cp_journal.specs.Opening.{IsImageOrSame}
-use Rattle.cp_journal.specs.Records.{IsBeforeOrAfter, and_record, records_of}
+use Rattle.cp_journal.specs.Records.{and_record, records_of}
 use Rattle.cp_journal.specs.Runs.{Call, opens, appends, IsOwn, empty, called, crashed, cut_off, quiet, SpellsRecords, OwnFilesSpellRecords}
 
 -- a file with the records of one that spells them

@@ -1,4 +1,4 @@
-use Rattle.std.proofs.Common.{◌≡◌, ℕ, List, [], ◌∷◌, refl, sym, subst}
+use Rattle.std.proofs.Common.{◌≡◌, [], ◌∷◌, refl, sym, subst}
 use Rattle.cp_disk.specs.declared.disk.Disk.{Ghosts}
 use Rattle.cp_journal.specs.Runs.{Appends, IsOwn, Opens, appends, called, opens}
 use Rattle.cp_journal.proofs.tests.append_three.Goals as goal
