@@ -1,5 +1,5 @@
 //! The journal.
-ghost use Rattle.std.specs.Prelude.{false, ◌≡◌, ◌≢◌, ◌≤◌, ◌<◌, ◌+◌, ◌-◌, ◌^◌, ◌↔◌, List, ℕ, length, IfOk, IfErr, MatchResult, OnOk, IsErrOf};
+ghost use Rattle.std.specs.Prelude.{false, Some, ◌≡◌, ◌≢◌, ◌≤◌, ◌<◌, ◌+◌, ◌-◌, ◌^◌, ◌↔◌, List, ℕ, length, IfOk, IfErr, MatchResult, OnOk, IsErrOf};
 ghost use Rattle.cp_words.specs.Faults.{Rose};
 ghost use Rattle.cp_disk.specs.Images.{Elapses, NoMore, Only};
 ghost use Rattle.cp_journal.specs.Errors.{CountsDisk, OpenCause};
@@ -163,6 +163,7 @@ impl<D: CrashDisk> Journal<D> {
         ensures orders { D.Disk.orders (disk_of self.new) ≡ D.Disk.orders (disk_of self.old) + 1 }
         ensures counts { (D.Disk.faults (disk_of self.new) ≡ D.Disk.faults (disk_of self.old)) × (D.Disk.starved (disk_of self.new) ≡ D.Disk.starved (disk_of self.old)) }
         ensures armed { D.is_struck (disk_of self.new) ≡ false }
+        ensures stop { D.stop (disk_of self.new) ≡ Some calls }
         ensures others { (is_spent self.new ≡ is_spent self.old) × (end_of self.new ≡ end_of self.old) }
     {
         self.disk.stop_after(calls);
