@@ -6,7 +6,7 @@ use Rattle.cp_journal.specs.declared.error.JournalError.{JournalError}
 use Rattle.cp_journal.specs.declared.error.JournalError.TheVariants as error
 use Rattle.cp_journal.specs.Errors.{OpenCause}
 use Rattle.cp_journal.specs.Records.{and_record, records_of}
-use Rattle.cp_journal.specs.Runs.{Call, opens, appends, IsOwn, empty, called, crashed, cut_off, quiet, SpellsRecords, OwnFilesSpellRecords}
+use Rattle.cp_journal.specs.Runs.{JournalCall, opens, appends, IsOwn, empty, called, crashed, cut_off, quiet, SpellsRecords, OwnFilesSpellRecords}
 
 -- a file with the records of one that spells them
 same_records : (file image : List ℕ) → SpellsRecords file → records_of image ≡ records_of file → SpellsRecords image
@@ -32,7 +32,7 @@ module _ {D : Type 0} (disks : Ghosts D) (counts_now : (disk : D) (since : ℕ) 
   Good disk = (image : List ℕ) → disks.may_leave disk image → SpellsRecords image
 
   -- a crash at any moment of a call
-  during : (old new : D) → Good old → Call disks old new → (image : List ℕ) → disks.left_since new (disks.moment old) image → SpellsRecords image
+  during : (old new : D) → Good old → JournalCall disks old new → (image : List ℕ) → disks.left_since new (disks.moment old) image → SpellsRecords image
   during _ _ good (opens old new call) image left =
       let now = good (disks.seen old) (reads old) in
       ⊎_elim (good image) (λ (same : records_of image ≡ records_of (disks.seen old)). same_records (disks.seen old) image now same) (call.each image left)
@@ -43,7 +43,7 @@ module _ {D : Type 0} (disks : Ghosts D) (counts_now : (disk : D) (since : ℕ) 
       (λ (more : records_of image ≡ and_record (records_of (disks.seen old)) body). one_more (disks.seen old) image body now more)
       (call.each image left)
 
-  later : (old new : D) → Call disks old new → disks.moment old ≤ disks.moment new
+  later : (old new : D) → JournalCall disks old new → disks.moment old ≤ disks.moment new
   later _ _ (opens old new call) = call.later
   later _ _ (appends body old new call) = call.later
 

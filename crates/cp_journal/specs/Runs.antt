@@ -22,17 +22,18 @@ pub record IsLeft {D : Type 0} (disks : Ghosts D) (images : List ℕ → Type 0)
   pub only : Only (disks.seen disk) (disks.may_leave disk)
 
 -- one call of a journal, whatever it answered
-pub data Call {D : Type 0} (disks : Ghosts D) : D → D → Type 0 where
-  opens : (old new : D) → Opens disks old new → Call disks old new
-  appends : (body : List ℕ) (old new : D) → Appends disks body old new → Call disks old new
+pub data JournalCall {D : Type 0} (disks : Ghosts D) : D → D → Type 0 where
+  opens : (old new : D) → Opens disks old new → JournalCall disks old new
+  appends : (body : List ℕ) (old new : D) → Appends disks body old new → JournalCall disks old new
 
--- A run: from an empty disk on, calls of a journal, crashes between two calls and at any moment of one, and calls that add
--- no image, as a stop.
+-- A run: from an empty disk on, calls of journals, crashes between two calls and at any moment of one, and calls that add
+-- no image, as a stop. Of a call that was cut off, `mid` is what it would have left: what a crash leaves during it is among
+-- the images since it began. Closing a journal does nothing to its disk.
 pub data IsOwn {D : Type 0} (disks : Ghosts D) : D → Type 0 where
   empty : (disk : D) → Only [] (disks.may_leave disk) → IsOwn disks disk
-  called : (old new : D) → IsOwn disks old → Call disks old new → IsOwn disks new
+  called : (old new : D) → IsOwn disks old → JournalCall disks old new → IsOwn disks new
   crashed : (old new : D) → IsOwn disks old → IsLeft disks (disks.may_leave old) new → IsOwn disks new
-  cut_off : (old mid new : D) → IsOwn disks old → Call disks old mid → IsLeft disks (disks.left_since mid (disks.moment old)) new → IsOwn disks new
+  cut_off : (old mid new : D) → IsOwn disks old → JournalCall disks old mid → IsLeft disks (disks.left_since mid (disks.moment old)) new → IsOwn disks new
   quiet : (old new : D) → IsOwn disks old → NoMore (disks.may_leave old) (disks.may_leave new) → IsOwn disks new
 
 -- the file spells records, so that no frame of it is bad
