@@ -1,4 +1,5 @@
 pub mod Causes
+pub mod Failing
 pub mod Images
 pub mod Record
 pub mod Room

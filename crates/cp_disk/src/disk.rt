@@ -1,5 +1,5 @@
 //! The traits of disks.
-ghost use Rattle.std.specs.Prelude.{Bool, false, ◌≡◌, ◌≤◌, ◌<◌, ◌+◌, ◌^◌, List, ℕ, length, take, drop, IfOk, OnOk, IsErrOf};
+ghost use Rattle.std.specs.Prelude.{Bool, false, Option, None, Some, ◌≡◌, ◌≤◌, ◌<◌, ◌+◌, ◌^◌, List, ℕ, length, take, drop, IfOk, OnOk, IsErrOf};
 ghost use Rattle.cp_disk.specs.declared.disk.Fault.TheVariants as fault;
 ghost use Rattle.cp_disk.specs.Causes.{CountsFaults, CountsFailures};
 ghost use Rattle.cp_disk.specs.Images.{written, Elapses, Follows, NoMore, Only, Shortened, Torn};
@@ -116,6 +116,9 @@ pub trait CrashDisk: Disk {
     /// Whether a stop has failed a call since it was armed.
     ghost is_struck: { Self → Bool };
 
+    /// How many changes an armed stop still lets pass.
+    ghost stop: { Self → Option ℕ };
+
     /// Leaves one of the images, by the choice, and ends a stop.
     fn crash(&mut self, choice: u64)
         requires { Self.orders self.old < 2 ^ 62 }
@@ -123,7 +126,8 @@ pub trait CrashDisk: Disk {
         ensures only { Self.Told → Only (Self.seen self.new) (Self.may_leave self.new) }
         ensures time { Self.Told → Elapses (Self.moment self.old) (Self.moment self.new) (Self.left_since self.old) (Self.left_since self.new) (Self.may_leave self.new) }
         ensures orders { Self.orders self.new ≡ Self.orders self.old + 1 }
-        ensures counts { (Self.faults self.new ≡ Self.faults self.old) × (Self.starved self.new ≡ Self.starved self.old) };
+        ensures counts { (Self.faults self.new ≡ Self.faults self.old) × (Self.starved self.new ≡ Self.starved self.old) }
+        ensures ended { stop self.new ≡ None };
 
     /// Lets so many calls of `write_at`, `cut` and `sync` pass, and then fails every call until a crash.
     fn stop_after(&mut self, calls: u64)
@@ -133,7 +137,8 @@ pub trait CrashDisk: Disk {
         ensures time { Self.Told → Elapses (Self.moment self.old) (Self.moment self.new) (Self.left_since self.old) (Self.left_since self.new) (Self.may_leave self.new) }
         ensures orders { Self.orders self.new ≡ Self.orders self.old + 1 }
         ensures counts { (Self.faults self.new ≡ Self.faults self.old) × (Self.starved self.new ≡ Self.starved self.old) }
-        ensures armed { is_struck self.new ≡ false };
+        ensures armed { is_struck self.new ≡ false }
+        ensures stop { stop self.new ≡ Some calls };
 
     /// Whether a stop has failed a call since it was armed.
     fn struck(&self) -> bool

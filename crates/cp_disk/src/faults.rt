@@ -1,5 +1,5 @@
 //! Which calls of a disk in memory fail, and what it counts.
-ghost use Rattle.std.specs.Prelude.{◌≡◌, ◌≤◌, ◌+◌, ◌<◌, ◌^◌, false, OnErr, OnOk};
+ghost use Rattle.std.specs.Prelude.{◌≡◌, ◌≤◌, ◌+◌, ◌<◌, ◌^◌, false, None, Some, OnErr, OnOk, is_err};
 ghost use Rattle.cp_words.specs.Faults.{Rose};
 ghost use Rattle.cp_disk.specs.Causes.{CountsFailures};
 
@@ -25,10 +25,13 @@ pub struct Faults {
 }
 
 impl Faults {
+    ghost use Rattle.cp_disk.specs.Failing.{after_call, after_change, fails_next, is_used_up, names_next, one_fewer, one_more};
+
     /// No call was made, and no stop is armed.
     pub fn new(fails: Vec<u64>) -> Faults
         ensures counts { (result.faults ≡ 0) × ((result.starved ≡ 0) × (result.orders ≡ 0)) }
         ensures struck { result.is_struck ≡ false }
+        ensures calls { (result.calls ≡ 0) × ((result.stop ≡ None) × (result.fails ≡ fails)) }
     {
         Faults {
             fails,
@@ -41,13 +44,17 @@ impl Faults {
         }
     }
 
-    fn is_stopped(&self) -> bool {
+    /// Whether a stop fails the next call.
+    fn is_stopped(&self) -> bool
+        ensures { result ≡ is_used_up self.now.stop }
+    {
         self.stop == Some(0)
     }
 
     /// Counts the call, and says whether it is one of those that fail.
     fn is_named(&mut self) -> bool
-        ensures { (self.new.faults ≡ self.old.faults) × ((self.new.starved ≡ self.old.starved) × (self.new.orders ≡ self.old.orders)) }
+        ensures named { result ≡ names_next self.old }
+        ensures counted { self.new ≡ record self.old { calls = one_more self.old.calls } }
     {
         self.calls = self.calls.saturating_add(1);
         self.fails.contains(&self.calls)
@@ -56,7 +63,7 @@ impl Faults {
     fn count_fault(&mut self)
         ensures later { self.old.faults ≤ self.new.faults }
         ensures rose { Rose self.old.faults self.new.faults }
-        ensures others { (self.new.starved ≡ self.old.starved) × (self.new.orders ≡ self.old.orders) }
+        ensures counted { self.new ≡ record self.old { faults = one_more self.old.faults } }
     {
         self.faults = self.faults.saturating_add(1);
     }
@@ -65,14 +72,14 @@ impl Faults {
     pub fn count_starved(&mut self)
         ensures later { self.old.starved ≤ self.new.starved }
         ensures rose { Rose self.old.starved self.new.starved }
-        ensures others { (self.new.faults ≡ self.old.faults) × (self.new.orders ≡ self.old.orders) }
+        ensures counted { self.new ≡ record self.old { starved = one_more self.old.starved } }
     {
         self.starved = self.starved.saturating_add(1);
     }
 
     /// Lets one of the changes pass that a stop lets pass.
     fn pass_change(&mut self)
-        ensures { (self.new.faults ≡ self.old.faults) × ((self.new.starved ≡ self.old.starved) × (self.new.orders ≡ self.old.orders)) }
+        ensures { self.new ≡ record self.old { stop = one_fewer self.old.stop } }
     {
         if let Some(left) = self.stop {
             self.stop = Some(left.saturating_sub(1));
@@ -81,6 +88,8 @@ impl Faults {
 
     /// Lets a call pass, or fails it.
     pub fn admit(&mut self) -> Result<(), Failed>
+        ensures fails { is_err result ≡ fails_next self.old }
+        ensures state { self.new ≡ after_call self.old }
         ensures cause { CountsFailures self.old.faults self.new.faults self.old.starved self.new.starved result }
         ensures ok { OnOk result (self.new.faults ≡ self.old.faults) }
         ensures orders { self.new.orders ≡ self.old.orders }
@@ -100,6 +109,8 @@ impl Faults {
 
     /// Lets a change pass, or fails it.
     pub fn admit_change(&mut self) -> Result<(), Failed>
+        ensures fails { is_err result ≡ fails_next self.old }
+        ensures state { self.new ≡ after_change self.old }
         ensures cause { CountsFailures self.old.faults self.new.faults self.old.starved self.new.starved result }
         ensures ok { OnOk result (self.new.faults ≡ self.old.faults) }
         ensures orders { self.new.orders ≡ self.old.orders }
@@ -116,9 +127,7 @@ impl Faults {
     /// Arms a stop.
     pub fn arm(&mut self, calls: u64)
         requires { self.old.orders < 2 ^ 62 }
-        ensures counts { (self.new.faults ≡ self.old.faults) × (self.new.starved ≡ self.old.starved) }
-        ensures orders { self.new.orders ≡ self.old.orders + 1 }
-        ensures struck { self.new.is_struck ≡ false }
+        ensures { self.new ≡ record self.old { stop = Some calls; is_struck = false; orders = self.old.orders + 1 } }
     {
         self.stop = Some(calls);
         self.is_struck = false;
@@ -128,8 +137,7 @@ impl Faults {
     /// Ends a stop, at a crash.
     pub fn disarm(&mut self)
         requires { self.old.orders < 2 ^ 62 }
-        ensures counts { (self.new.faults ≡ self.old.faults) × (self.new.starved ≡ self.old.starved) }
-        ensures orders { self.new.orders ≡ self.old.orders + 1 }
+        ensures { self.new ≡ record self.old { stop = None; orders = self.old.orders + 1 } }
     {
         self.stop = None;
         self.orders += 1;

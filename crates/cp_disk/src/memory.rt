@@ -118,6 +118,8 @@ impl Disk for MemoryDisk {
 impl CrashDisk for MemoryDisk {
     ghost is_struck = { λ disk. disk.faults.is_struck };
 
+    ghost stop = { λ disk. disk.faults.stop };
+
     fn crash(&mut self, choice: u64) {
         self.faults.disarm();
         if self.medium.is_pending() {

@@ -1,12 +1,12 @@
 -- What the bodies so far and the next gate say of a file.
-use Rattle.std.proofs.Common.{true, false, ◌≡◌, ◌≤◌, ◌<◌, ◌+◌, ◌++◌, ℕ, List, [], ◌∷◌, length, Vec, map, refl, sym, ◌∙◌, ap, subst, arith}
-use Rattle.std.specs.Prelude.{slice_index, Err}
+use Rattle.std.proofs.Common.{◌≡◌, ◌≤◌, ◌<◌, ◌+◌, ◌++◌, ℕ, List, [], ◌∷◌, length, Vec, refl, sym, ◌∙◌, ap, subst}
+use Rattle.std.specs.Prelude.{Err}
 use Rattle.std.specs.declared.alloc.Global.{Global}
 use Rattle.cp_journal.specs.declared.reading.Found.{Found}
 use Rattle.cp_journal.specs.declared.reading.Found.TheVariants as found
 use Rattle.cp_journal.specs.Found.{FitsIn, IsFound, lists}
 use Rattle.cp_journal.specs.Frames.{AreFrames, IsFrame}
-use Rattle.cp_journal.specs.Records.{body_at, is_whole, records_of}
+use Rattle.cp_journal.specs.Records.{records_of}
 use Rattle.cp_journal.proofs.Walks.{bad_records, frames_push}
 use Rattle.cp_journal.proofs.Resting.{frame_of}
 

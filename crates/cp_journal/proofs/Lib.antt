@@ -7,3 +7,4 @@ pub mod Resting
 pub mod Causes
 pub mod Gathered
 pub mod Openings
+pub mod OwnFiles

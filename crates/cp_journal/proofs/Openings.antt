@@ -1,9 +1,9 @@
 -- What a crash leaves of a file while it is opened.
-use Rattle.std.proofs.Common.{◌≡◌, ◌≤◌, ◌<◌, ◌+◌, ◌-◌, ◌++◌, ℕ, List, [], ◌∷◌, length, take, drop, refl, sym, ◌∙◌, ap, subst, arith, length-take}
-use Rattle.std.specs.Prelude.{slice_index, Ok, Some}
+use Rattle.std.proofs.Common.{◌≡◌, ◌≤◌, ◌<◌, ◌+◌, ◌-◌, ℕ, List, [], ◌∷◌, length, take, refl, sym, ◌∙◌, ap, subst, arith, length-take}
+use Rattle.std.specs.Prelude.{slice_index}
 use Rattle.std.proofs.lemmas.Grind.{common_steps}
 use Rattle.cp_disk.specs.Images.{Only, Shortened, Torn, written}
-use Rattle.cp_journal.specs.Frames.{IsAtRest, IsClosed, Rests}
+use Rattle.cp_journal.specs.Frames.{IsAtRest, IsClosed}
 use Rattle.cp_journal.specs.Opening.{IsOpened}
 use Rattle.cp_journal.specs.Records.{closed_gate, records_of}
 use Rattle.cp_journal.proofs.Walks.{closed_records, closed_same, cut_behind, short_file}

@@ -1,11 +1,10 @@
 -- A file at rest, with its bodies by name.
-use Rattle.std.proofs.Common.{Bool, true, false, ◌≡◌, ◌≤◌, ◌<◌, ◌+◌, ◌-◌, ◌++◌, ℕ, zero, suc, List, [], ◌∷◌, length, take, drop, refl, sym, ◌∙◌, ap, subst, arith}
-use Rattle.std.specs.Prelude.{slice_index, Option, Some, None, nat_lt, ◌==◌, ◌&&◌, if◌then◌else◌}
+use Rattle.std.proofs.Common.{Bool, true, false, ◌≡◌, ◌≤◌, ◌<◌, ◌+◌, ℕ, zero, suc, List, [], ◌∷◌, length, refl, sym, ◌∙◌, ap, subst, arith}
+use Rattle.std.specs.Prelude.{slice_index, Some, None, ◌==◌, if◌then◌else◌}
 use Rattle.std.proofs.lemmas.Grind.{common_steps}
 use Rattle.std.proofs.lemmas.Bool.Decides.{nat_tests}
-use Rattle.cp_disk.specs.Images.{Only}
-use Rattle.cp_journal.specs.Records.{IsBody, body_at, closed_gate, gate_from, is_whole, next_gate, size_at}
-use Rattle.cp_journal.specs.Frames.{AreFrames, IsAtRest, IsClosed, IsFrame, Rests}
+use Rattle.cp_journal.specs.Records.{body_at, gate_from, is_whole, next_gate, size_at}
+use Rattle.cp_journal.specs.Frames.{AreFrames, IsAtRest, IsFrame, Rests}
 use Rattle.cp_journal.proofs.Walks.{frames_le, open_gate, whole}
 
 -- frames up to a closed gate

@@ -1,5 +1,5 @@
 -- A write that a crash undoes whole.
-use Rattle.std.proofs.Common.{◌≡◌, ℕ, List, refl, arith}
+use Rattle.std.proofs.Common.{ℕ, List, refl, arith}
 use Rattle.cp_disk.specs.Images.{Torn}
 
 pub untouched : (at n : ℕ) (old : List ℕ) → Torn at n old old

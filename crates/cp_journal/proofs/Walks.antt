@@ -1,12 +1,12 @@
 -- What files of frames spell.
 use Rattle.std.proofs.Common.{Bool, true, false, ◌≡◌, ◌≤◌, ◌<◌, ◌+◌, ◌-◌, ◌++◌, inl, inr, ◌⊎◌, ℕ, max, zero, suc, List, [], ◌∷◌, length, take, drop, refl, sym, ◌∙◌, ap, subst, arith, length-append, length-take, append_assoc}
-use Rattle.std.specs.Prelude.{slice_index, Result, Ok, Err, nat_lt, ◌==◌, ◌&&◌, if◌then◌else◌}
+use Rattle.std.specs.Prelude.{slice_index, Result, Ok, Err, nat_lt, ◌==◌}
 use Rattle.std.specs.Int.{w32, to_be_bytes, from_be_bytes}
 use Rattle.std.proofs.lemmas.Grind.{common_steps}
 use Rattle.std.proofs.lemmas.Bool.Decides.{nat_tests}
 use Rattle.std.proofs.Math.Seq.{get_or-append_seam}
 use Rattle.std.proofs.lemmas.Nat.{from_be_bytes-to_be_bytes_4}
-use Rattle.cp_disk.specs.Images.{written, Torn, Shortened, Only}
+use Rattle.cp_disk.specs.Images.{written, Torn, Shortened}
 use Rattle.cp_journal.specs.Records.{IsBody, IsBeforeOrAfter, and_record, body_at, is_whole, next_gate, record_bytes, records_from, records_of, size_at, with_first}
 use Rattle.cp_journal.specs.Frames.{AreFrames, IsClosed, IsFrame}
 use Rattle.cp_journal.proofs.Lists.{same_part, middle}

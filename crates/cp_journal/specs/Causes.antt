@@ -1,5 +1,5 @@
 -- When a run of calls of a disk may answer an error.
-use Rattle.std.specs.Prelude.{◌≡◌, ◌≤◌, ℕ, IfErr}
+use Rattle.std.specs.Prelude.{◌≤◌, ℕ, IfErr}
 use Rattle.std.specs.declared.result.Result.{Result}
 use Rattle.cp_disk.specs.declared.disk.Fault.{Fault}
 use Rattle.cp_disk.specs.declared.disk.Fault.TheVariants as fault

@@ -4,7 +4,7 @@ use Rattle.std.specs.declared.alloc.Global.{Global}
 use Rattle.std.specs.Prelude.{Vec}
 use Rattle.cp_journal.specs.declared.reading.Found.{Found}
 use Rattle.cp_journal.specs.declared.reading.Found.TheVariants as found
-use Rattle.cp_journal.specs.Records.{IsBody, body_at, is_whole, next_gate}
+use Rattle.cp_journal.specs.Records.{body_at, is_whole}
 
 -- a closed gate, an open gate with no whole record and gate behind it, or one with this body
 abbrev pub IsFound : ℕ → List ℕ → Found → Type 0

@@ -1,5 +1,5 @@
 -- The frames of a file: open gates with their records.
-use Rattle.std.specs.Prelude.{◌≡◌, ◌≤◌, ◌<◌, ◌+◌, ℕ, List, [], ◌∷◌, length, take, drop, slice_index, Some}
+use Rattle.std.specs.Prelude.{◌≡◌, ◌<◌, ◌+◌, ℕ, List, [], ◌∷◌, length, slice_index, Some}
 use Rattle.cp_disk.specs.Images.{Only}
 use Rattle.cp_journal.specs.Records.{IsBody, body_at, closed_gate, size_at}
 

@@ -6,3 +6,4 @@ pub mod Errors
 pub mod Journals
 pub mod Found
 pub mod Opening
+pub mod Runs

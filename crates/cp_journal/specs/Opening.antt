@@ -1,5 +1,5 @@
 -- What opening makes of a file.
-use Rattle.std.specs.Prelude.{◌≡◌, ◌≤◌, ◌-◌, ◌⊎◌, ℕ, List, Ok}
+use Rattle.std.specs.Prelude.{◌≡◌, ◌-◌, ◌⊎◌, ℕ, List, Ok}
 use Rattle.cp_journal.specs.Records.{records_of}
 use Rattle.cp_journal.specs.Frames.{IsAtRest}
 

@@ -1,14 +1,14 @@
 //! The journal.
-ghost use Rattle.std.specs.Prelude.{false, ◌≡◌, ◌≤◌, ◌<◌, ◌+◌, ◌-◌, ◌^◌, ◌↔◌, List, ℕ, length, IfOk, IfErr, MatchResult, OnOk, IsErrOf};
+ghost use Rattle.std.specs.Prelude.{false, Some, ◌≡◌, ◌≢◌, ◌≤◌, ◌<◌, ◌+◌, ◌-◌, ◌^◌, ◌↔◌, List, ℕ, length, IfOk, IfErr, MatchResult, OnOk, IsErrOf};
 ghost use Rattle.cp_words.specs.Faults.{Rose};
 ghost use Rattle.cp_disk.specs.Images.{Elapses, NoMore, Only};
 ghost use Rattle.cp_journal.specs.Errors.{CountsDisk, OpenCause};
 ghost use Rattle.cp_journal.specs.declared.error.JournalError.TheVariants as error;
 ghost use Rattle.cp_journal.specs.Frames.{IsAtRest};
-ghost use Rattle.cp_journal.specs.Moments.{LeavesOnly};
 ghost use Rattle.cp_journal.specs.Found.{lists};
-ghost use Rattle.cp_journal.specs.Opening.{IsImageOrSame, IsOpened};
-ghost use Rattle.cp_journal.specs.Records.{IsBody, IsBeforeOrAfter, and_record, record_bytes, records_of};
+ghost use Rattle.cp_journal.specs.Opening.{IsOpened};
+ghost use Rattle.cp_journal.specs.Records.{IsBody, and_record, record_bytes, records_of};
+ghost use Rattle.cp_journal.specs.Runs.{Appends, IsOwn, Opens};
 
 use crate::JournalError;
 use crate::append::{SMALL, append_record, long_record, small_record};
@@ -40,10 +40,11 @@ impl<D: Disk> Journal<D> {
         ensures records { D.Told → IfOk result (λ opened. IsOpened (lists opened.1.items) (end_of opened.0) (D.seen disk) (D.seen (disk_of opened.0)) (D.may_leave (disk_of opened.0))) }
 
         // A crash at any moment of the call leaves what it could leave before, or the same records.
-        ensures any_moment { D.Told → MatchResult result
-            (λ opened. LeavesOnly D.moment D.left_since disk (disk_of opened.0) (IsImageOrSame (D.may_leave disk) (D.seen disk)))
-            (λ refused. LeavesOnly D.moment D.left_since disk refused.0 (IsImageOrSame (D.may_leave disk) (D.seen disk))) }
+        ensures any_moment { D.Told → MatchResult result (λ opened. Opens D.Disk disk (disk_of opened.0)) (λ refused. Opens D.Disk disk refused.0) }
         ensures cause { IfErr result (λ refused. OpenCause (D.faults disk) (D.faults refused.0) D.Told (records_of (D.seen disk)) refused.1) }
+
+        // A disk that was empty, and that journals alone wrote, has no bad frame.
+        ensures own { D.Told → IsOwn D.Disk disk → IfErr result (λ refused. (place : ℕ) → refused.1 ≢ error.BadFrame place) }
         ensures counts { MatchResult result
             (λ opened. (D.faults disk ≤ D.faults (disk_of opened.0)) × ((D.starved disk ≤ D.starved (disk_of opened.0)) × (D.orders (disk_of opened.0) ≡ D.orders disk)))
             (λ refused. (D.faults disk ≤ D.faults refused.0) × ((D.starved disk ≤ D.starved refused.0) × (D.orders refused.0 ≡ D.orders disk))) }
@@ -69,8 +70,7 @@ impl<D: Disk> Journal<D> {
         requires body { (body : List ℕ) × IsBody body × (bytes.now ≡ record_bytes body) }
         ensures appended { (body : List ℕ) → IsBody body → bytes.now ≡ record_bytes body → D.Told → OnOk result (records_of (D.seen self.new.disk) ≡ and_record (records_of (D.seen self.old.disk)) body) }
         ensures refused { D.Told → IsErrOf result error.NoMemory → records_of (D.seen self.new.disk) ≡ records_of (D.seen self.old.disk) }
-        ensures any_moment { (body : List ℕ) → IsBody body → bytes.now ≡ record_bytes body → D.Told →
-            LeavesOnly D.moment D.left_since self.old.disk self.new.disk (IsBeforeOrAfter (records_of (D.seen self.old.disk)) body) }
+        ensures any_moment { (body : List ℕ) → IsBody body → bytes.now ≡ record_bytes body → D.Told → Appends D.Disk body self.old.disk self.new.disk }
         ensures ok { OnOk result ((self.new.spent ≡ false) × (self.new.end ≡ self.old.end + length bytes.now)) }
         ensures starved { IsErrOf result error.NoMemory → (self.new.spent ≡ false) × ((self.new.end ≡ self.old.end) × Rose (D.starved self.old.disk) (D.starved self.new.disk)) }
         ensures not_full { IsErrOf result error.Full → ⊥ }
@@ -102,7 +102,7 @@ impl<D: Disk> Journal<D> {
         ensures durable { D.Told → is_spent self.new ≡ false → Only (D.seen (disk_of self.new)) (D.may_leave (disk_of self.new)) }
 
         // A crash at any moment of the call leaves the records from before it, with the new one or without.
-        ensures any_moment { D.Told → LeavesOnly D.moment D.left_since (disk_of self.old) (disk_of self.new) (IsBeforeOrAfter (records_of (D.seen (disk_of self.old))) body.now) }
+        ensures any_moment { D.Told → Appends D.Disk body.now (disk_of self.old) (disk_of self.new) }
 
         ensures ok { OnOk result ((is_spent self.new ≡ false) × (end_of self.new ≡ end_of self.old + (length body.now + 5))) }
         ensures starved { IsErrOf result error.NoMemory → (is_spent self.new ≡ false) × (end_of self.new ≡ end_of self.old) }
@@ -163,6 +163,7 @@ impl<D: CrashDisk> Journal<D> {
         ensures orders { D.Disk.orders (disk_of self.new) ≡ D.Disk.orders (disk_of self.old) + 1 }
         ensures counts { (D.Disk.faults (disk_of self.new) ≡ D.Disk.faults (disk_of self.old)) × (D.Disk.starved (disk_of self.new) ≡ D.Disk.starved (disk_of self.old)) }
         ensures armed { D.is_struck (disk_of self.new) ≡ false }
+        ensures stop { D.stop (disk_of self.new) ≡ Some calls }
         ensures others { (is_spent self.new ≡ is_spent self.old) × (end_of self.new ≡ end_of self.old) }
     {
         self.disk.stop_after(calls);

@@ -5,11 +5,13 @@ mod append;
 mod error;
 mod journal;
 mod opening;
+mod own;
 mod reading;
 mod steps;
 
 pub use error::JournalError;
 pub use journal::Journal;
+pub use own::own_files_spell_records;
 
 #[cfg(test)]
 mod tests;

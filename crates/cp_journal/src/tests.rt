@@ -1,5 +1,6 @@
 //! Expected files are written by hand from the format: a gate, a length of four bytes, a body, and so on.
 ghost use Rattle.std.specs.Prelude.{◌≡◌};
+ghost use Rattle.cp_journal.specs.Runs.{IsOwn};
 
 use super::*;
 use cp_disk::{CrashDisk, Disk, MemoryDisk};
@@ -16,7 +17,8 @@ fn holds<D: Disk>(alloc: Global, disk: &mut D, bytes: &[u8]) -> Result<bool, Fai
 
 /// Opens a journal and appends the bodies 1, 2 2 and 3 3 3. It gives the disk, and how many appends answered Ok.
 fn append_three<D: CrashDisk>(alloc: Global, disk: D) -> (D, usize)
-    ensures { D.Disk.orders result.0 ≡ D.Disk.orders disk }
+    ensures orders { D.Disk.orders result.0 ≡ D.Disk.orders disk }
+    ensures own { D.Disk.Told → IsOwn D.Disk disk → IsOwn D.Disk result.0 }
 {
     let mut journal = match Journal::open(alloc, disk) {
         Ok((journal, _bodies)) => journal,
@@ -41,15 +43,31 @@ fn is_body(bodies: &[Vec<u8>], place: usize, body: &[u8]) -> bool {
     }
 }
 
+/// The bodies that opening gives. That there is no bad frame is proved.
+fn reopened<D: Disk + Drop>(alloc: Global, disk: D) -> Option<Vec<Vec<u8>>>
+    requires told { D.Told }
+    requires own { IsOwn D.Disk disk }
+{
+    match Journal::open(alloc, disk) {
+        Ok((_journal, bodies)) => Some(bodies),
+        Err((_disk, error)) => match error {
+            JournalError::BadFrame(_) => unreachable!(),
+            _ => None,
+        },
+    }
+}
+
 /// Whether a crash by this choice, after so many changes of a new disk, leaves what was acknowledged.
 fn survives<D: CrashDisk + Drop>(alloc: Global, disk: D, stop: u64, choice: u64) -> bool
-    requires { D.Disk.orders disk ≡ 0 }
+    requires orders { D.Disk.orders disk ≡ 0 }
+    requires told { D.Disk.Told }
+    requires own { IsOwn D.Disk disk }
 {
     let mut disk = disk;
     disk.stop_after(stop);
     let (mut disk, told) = append_three(alloc, disk);
     disk.crash(choice);
-    let Ok((_journal, bodies)) = Journal::open(alloc, disk) else {
+    let Some(bodies) = reopened(alloc, disk) else {
         return false;
     };
     told <= bodies.len()

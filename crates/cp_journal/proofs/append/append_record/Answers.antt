@@ -1,8 +1,8 @@
 use Rattle.cp_disk.specs.declared.disk.Fault.TheVariants as fault
 use Rattle.std.specs.Prelude.{Err}
-use Rattle.std.proofs.Common.{◌≡◌, ◌≤◌, ◌+◌, ◌++◌, ℕ, List, [], ◌∷◌, length, refl, sym, ◌∙◌, ap, subst, arith}
+use Rattle.std.proofs.Common.{◌≡◌, ◌+◌, ◌++◌, ℕ, List, [], ◌∷◌, length, refl, sym, ◌∙◌, ap, subst, arith}
 use Rattle.cp_disk.specs.Images.{Only, Torn, written}
-use Rattle.cp_journal.specs.Frames.{IsAtRest, IsClosed}
+use Rattle.cp_journal.specs.Frames.{IsClosed}
 use Rattle.cp_journal.specs.Records.{IsBeforeOrAfter, records_of, record_bytes}
 use Rattle.cp_journal.proofs.Moments.{joined, weaker}
 use Rattle.cp_journal.proofs.Resting.{at_rest, resting}

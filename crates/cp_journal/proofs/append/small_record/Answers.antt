@@ -1,6 +1,4 @@
-use Rattle.std.proofs.Common.{◌≡◌, ◌≤◌, ◌+◌, ◌-◌, ◌++◌, ℕ, List, [], ◌∷◌, length, take, drop, replicate, refl, sym, ◌∙◌, ap, subst, arith}
-use Rattle.std.proofs.lemmas.Grind.{common_steps}
-use Rattle.cp_disk.specs.Images.{written}
+use Rattle.std.proofs.Common.{◌++◌, ℕ, List, [], ◌∷◌, length, replicate, refl, ◌∙◌, ap}
 use Rattle.cp_journal.proofs.Arrays.{laid, zeros_at}
 use Rattle.cp_journal.proofs.append.small_record.Goals as goal
 

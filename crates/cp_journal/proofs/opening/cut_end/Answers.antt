@@ -1,4 +1,4 @@
-use Rattle.std.proofs.Common.{◌≡◌, ◌+◌, ℕ, List, length}
+use Rattle.std.proofs.Common.{◌≡◌, ◌+◌}
 use Rattle.cp_disk.specs.Images.{Shortened}
 use Rattle.cp_journal.specs.Records.{records_of}
 use Rattle.cp_journal.proofs.Moments.{weaker}

@@ -1,7 +1,6 @@
-use Rattle.std.proofs.Common.{◌≡◌, ◌+◌, ℕ, List, length, subst, sym}
+use Rattle.std.proofs.Common.{subst, sym}
 use Rattle.cp_journal.specs.Found.{lists}
 use Rattle.cp_journal.specs.Frames.{IsClosed}
-use Rattle.cp_journal.specs.Records.{records_of}
 use Rattle.cp_journal.proofs.Openings.{opened_file, opening_leaves}
 use Rattle.cp_journal.proofs.opening.open_long.Goals as goal
 

@@ -1,4 +1,4 @@
-use Rattle.std.proofs.Common.{◌≡◌, ℕ, List, length, subst, sym}
+use Rattle.std.proofs.Common.{◌≡◌, subst, sym}
 use Rattle.cp_journal.specs.Found.{lists}
 use Rattle.cp_journal.specs.Opening.{IsOpened}
 use Rattle.cp_disk.specs.Images.{Torn}

@@ -1,4 +1,4 @@
-use Rattle.std.proofs.Common.{◌≡◌, ◌≤◌, ◌<◌, ◌+◌, ◌∙◌, length, arith}
+use Rattle.std.proofs.Common.{◌∙◌, arith}
 use Rattle.cp_journal.specs.Found.{lists}
 use Rattle.cp_journal.proofs.Gathered.{found_bad, found_body, found_fits}
 use Rattle.cp_journal.proofs.Moments.{stays_on}

@@ -1,4 +1,4 @@
-use Rattle.std.proofs.Common.{◌≡◌, ◌≤◌, ◌<◌, ◌-◌, length}
+use Rattle.std.proofs.Common.{◌≡◌, ◌≤◌, ◌<◌, ◌-◌}
 use Rattle.cp_journal.specs.Found.{lists}
 use Rattle.cp_journal.specs.Frames.{AreFrames}
 use Rattle.cp_journal.specs.Moments.{Stays}

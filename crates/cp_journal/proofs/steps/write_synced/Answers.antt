@@ -1,7 +1,6 @@
 use Rattle.std.proofs.Common.{length}
 use Rattle.cp_disk.specs.Images.{Torn}
 use Rattle.cp_journal.proofs.Moments.{two_calls}
-use Rattle.cp_journal.proofs.Walks.{written_staged, cut_behind, bad_records, closed_records, torn_behind}
 use Rattle.cp_journal.proofs.Untouched.{untouched}
 use Rattle.cp_journal.proofs.steps.write_synced.Goals as goal
 
