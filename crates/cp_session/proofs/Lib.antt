@@ -1,1 +1,4 @@
-
+pub mod Indexed
+pub mod Closed
+pub mod Found
+pub mod Tabled

@@ -1,1 +1,5 @@
-pub mod Clients
+pub mod Index
+pub mod Closings
+pub mod Creation
+pub mod Meetings
+pub mod Tables

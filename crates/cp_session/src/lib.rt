@@ -1,16 +1,15 @@
 //! Sessions of clients.
 #![tactic(auto)]
 
-ghost use Rattle.std.specs.Prelude.{◌≡◌};
-ghost use Rattle.std.specs.Option.{option_copied};
-ghost use Rattle.cp_session.specs.Clients.{client_cmp};
-ghost use Rattle.cp_group_state.specs.Rows.{find};
+mod beat;
+mod close;
+mod error;
+mod expire;
+mod index;
+mod open;
+mod sessions;
+#[cfg(test)]
+mod tests;
 
-use cp_base::ClientId;
-use std::collections::BTreeMap;
-
-fn number_of(clients: &BTreeMap<ClientId, u64>, client: &ClientId) -> Option<u64>
-    ensures { result ≡ find client_cmp clients.now.entries client.now }
-{
-    clients.get(client).copied()
-}
+pub use error::SessionError;
+pub use sessions::Sessions;
