@@ -1,11 +1,10 @@
--- What becomes of the sessions where a client asks for one, or where one gets a beat.
+-- What becomes of the sessions where a client asks for one.
 use Rattle.std.specs.Prelude.{◌≡◌, ℕ, List, Option, Some, None, if◌then◌else◌}
 use Rattle.std.specs.Ordering.{nat_cmp}
-use Rattle.std.specs.Option.{option_map}
 use Rattle.cp_base.specs.declared.identifier.ClientId.{ClientId}
 use Rattle.cp_group_state.specs.declared.rows.SessionRow.{SessionRow}
-use Rattle.cp_group_state.specs.Rows.{find, put, has_room, most}
-use Rattle.cp_group_state.specs.Sessions.{session_of, beaten}
+use Rattle.cp_group_state.specs.Rows.{put, has_room, most}
+use Rattle.cp_group_state.specs.Sessions.{session_of}
 use Rattle.cp_session.specs.declared.error.SessionError.{SessionError}
 use Rattle.cp_session.specs.declared.error.SessionError.TheVariants as error
 
@@ -35,11 +34,3 @@ IsCreated number c = c ≡ Number number
 abbrev pub IsSessionError : SessionError → Creation → Type 0
 IsSessionError (error.TableFull n) c = (c ≡ Full) × (n ≡ most)
 IsSessionError error.NoMemory c = Unit {0}
-
--- a session that is open gets a beat
-abbrev pub beat : List (ℕ × SessionRow) → ℕ → Option SessionRow → List (ℕ × SessionRow)
-beat rows session None = rows
-beat rows session (Some row) = put nat_cmp rows session (beaten row)
-
-abbrev pub beat_version : SessionRow → ℕ
-beat_version row = (beaten row).version

@@ -6,7 +6,8 @@ ghost use Rattle.std.specs.Ordering.{nat_cmp};
 ghost use Rattle.cp_group_state.specs.Rows.{find};
 ghost use Rattle.cp_group_state.specs.Sessions.{is_among, is_open_for, unchanged_since};
 ghost use Rattle.cp_group_state.specs.Invariants.{IsRising, OneSession};
-ghost use Rattle.cp_session.specs.Creation.{IsCreated, IsSessionError, beat, beat_version, created};
+ghost use Rattle.cp_session.specs.Creation.{IsCreated, IsSessionError, created};
+ghost use Rattle.cp_session.specs.Beats.{version_after, with_beat};
 ghost use Rattle.cp_session.specs.Tables.{MakesTable, IsTable};
 
 use crate::close::{close_each, close_one};
@@ -14,7 +15,8 @@ use crate::error::SessionError;
 use crate::expire::unchanged;
 use crate::open::{meet, open_at, Met, MOST_ROWS};
 use crate::beat::{beat_row, beaten_row};
-use cp_base::{ClientId, NoMemory};
+use crate::restore::maps_of;
+use cp_base::{ClientId, Items, NoMemory};
 use cp_group_state::SessionRow;
 use std::alloc::Global;
 use std::collections::BTreeMap;
@@ -54,6 +56,23 @@ impl Sessions {
         })
     }
 
+    /// The table of these rows: none exactly where their numbers don't rise, or a client has two of them.
+    pub fn from_rows(
+        alloc: Global,
+        rows: Items<(u64, SessionRow)>,
+    ) -> Result<Option<Sessions>, NoMemory>
+        ensures { IfOk result (MakesTable rows) }
+    {
+        match maps_of(alloc, rows)? {
+            Some((rows, numbers)) => Ok(Some(Sessions {
+                alloc,
+                rows,
+                numbers,
+            })),
+            None => Ok(None),
+        }
+    }
+
     /// The number of the client's open session; where it has none, one is opened, under the index as its number. A row
     /// of another client that has this number gives way to it.
     pub fn create(&mut self, index: u64, client: &ClientId) -> Result<u64, SessionError>
@@ -73,10 +92,9 @@ impl Sessions {
     }
 
     /// The session gets a beat, and gives its version then: none exactly where it isn't open.
-    #[tactic(auto, using(crate::proofs::Indexed::kept_client))]
     pub fn heartbeat(&mut self, session: u64) -> Option<u64>
-        ensures rows { self.new ≡ beat self.old session (find nat_cmp self.old session) }
-        ensures version { result ≡ option_map beat_version (find nat_cmp self.old session) }
+        ensures rows { self.new ≡ with_beat self.old session (find nat_cmp self.old session) }
+        ensures version { result ≡ option_map version_after (find nat_cmp self.old session) }
     {
         let next = beaten_row(self.rows.get(&session)?);
         beat_row(&mut self.rows, session, next);
