@@ -9,7 +9,7 @@ ghost use Rattle.cp_lock.specs.Tables.{MakesTable, AreThere};
 ghost use Rattle.cp_lock.specs.Outcomes.{IsLockError, IsReleased, IsTaken, owner_of};
 
 use crate::close::{free_rows, names_held};
-use crate::meet::{self, Asked, Step, MOST_ROWS};
+use crate::meet::{self, Asked, MOST_ROWS, Step};
 use crate::outcome::{LockError, Released, Taken};
 use crate::rows::{are_whole, put_row, write_row};
 use crate::session_set::SessionSet;
@@ -53,10 +53,7 @@ impl Locks {
     /// The table of these rows: none exactly where their names don't rise, or one without holds has a number that
     /// isn't 0.
     #[tactic(auto, using(crate::proofs::Whole::all_well, crate::proofs::Whole::none_well))]
-    pub fn from_rows(
-        alloc: Global,
-        rows: Items<(Name, LockRow)>,
-    ) -> Result<Option<Locks>, NoMemory>
+    pub fn from_rows(alloc: Global, rows: Items<(Name, LockRow)>) -> Result<Option<Locks>, NoMemory>
         ensures { IfOk result (MakesTable rows) }
     {
         if !are_whole(rows.as_slice()) {
@@ -169,7 +166,11 @@ impl Locks {
         ensures { option_copied result ≡ owner_of (lock_at self.now name.now) }
     {
         let row = self.rows.get(name)?;
-        if meet::is_free_row(row) { None } else { Some(&row.holder) }
+        if meet::is_free_row(row) {
+            None
+        } else {
+            Some(&row.holder)
+        }
     }
 
     /// The fence under which the lock is held, 0 where it is free.

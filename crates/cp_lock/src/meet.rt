@@ -99,12 +99,7 @@ fn once_more(row: &LockRow, limit: u32) -> Asked
 }
 
 /// What an acquire by this holder meets.
-pub fn meet_acquire(
-    rows: &BTreeMap<Name, LockRow>,
-    name: &Name,
-    who: &Holder,
-    limit: u32,
-) -> Asked
+pub fn meet_acquire(rows: &BTreeMap<Name, LockRow>, name: &Name, who: &Holder, limit: u32) -> Asked
     ensures { IsAsked result name.now who.now limit rows.now.entries }
 {
     match rows.get(name) {

@@ -23,13 +23,7 @@ fn thread_of(rows: &BTreeMap<(u64, u8), MemoryRow>, session: u64) -> Option<u8>
         (λ t. IsSome (find holder_cmp rows.now.entries (session, t))) }
 {
     match first_from(rows, session) {
-        Some(key) => {
-            if key.0 == session {
-                Some(key.1)
-            } else {
-                None
-            }
-        }
+        Some(key) => { if key.0 == session { Some(key.1) } else { None } }
         None => None,
     }
 }

@@ -99,7 +99,11 @@ impl Memory {
         ensures ok { OnOk result (self.new ≡ remember self.old session thread number answer) }
         ensures err { OnErr result (self.new ≡ self.old) }
     {
-        cp_table::put_row(&mut self.rows, (session, thread.0), MemoryRow { number, answer })
+        cp_table::put_row(
+            &mut self.rows,
+            (session, thread.0),
+            MemoryRow { number, answer },
+        )
     }
 
     /// The wait ended with this answer: the row of its call, if that is there, has it.

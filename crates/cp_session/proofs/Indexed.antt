@@ -107,13 +107,13 @@ module _ (rows rows' : List (ℕ × SessionRow)) (numbers numbers' : List (Clien
     are_named = λ n row h. at_key nat_cmp number_key number (Some fresh) rows rows' puts n
         (λ same. its_number n row same h)
         (λ far stays. let had : find client_cmp numbers row.client ≡ Some n = indexed.are_named n row (sym stays ∙ h) in
-            at_key client_cmp client_key client (Some number) numbers numbers' named row.client (λ same. absurd (other_client row.client n had same)) (λ away kept. kept ∙ had));
+        at_key client_cmp client_key client (Some number) numbers numbers' named row.client (λ same. absurd (other_client row.client n had same)) (λ away kept. kept ∙ had));
     are_open = λ c n h. at_key client_cmp client_key client (Some number) numbers numbers' named c
         (λ same. its_session c n same h)
         (λ away kept. let was : is_open_for rows n c ≡ true = indexed.are_open c n (sym kept ∙ h) in
-            at_key nat_cmp number_key number (Some fresh) rows rows' puts n
-                (λ same. let there = row_where rows n c was in absurd (none_some there.0 (sym free ∙ ap (find nat_cmp rows) same ∙ there.1)))
-                (λ far stays. ap (is_of c) stays ∙ was));
+        at_key nat_cmp number_key number (Some fresh) rows rows' puts n
+        (λ same. let there = row_where rows n c was in absurd (none_some there.0 (sym free ∙ ap (find nat_cmp rows) same ∙ there.1)))
+        (λ far stays. ap (is_of c) stays ∙ was));
   }
 
   -- the same where a row of another client gives way
@@ -130,25 +130,25 @@ module _ (rows rows' : List (ℕ × SessionRow)) (numbers numbers' : List (Clien
     named_over : (n : ℕ) (row : SessionRow) → find nat_cmp rows' n ≡ Some row → find client_cmp numbers'' row.client ≡ Some n
     named_over n row h = at_key nat_cmp number_key number (Some fresh) rows rows' puts n
         (λ same. let row_is : fresh ≡ row = some_same fresh row (sym put_here ∙ ap (find nat_cmp rows') same ∙ h) in
-            ap (find client_cmp numbers'') (ap (λ (r : SessionRow). r.client) (sym row_is) ∙ its) ∙ still_named ∙ ap (λ (x : ℕ). Some x) same)
+        ap (find client_cmp numbers'') (ap (λ (r : SessionRow). r.client) (sym row_is) ∙ its) ∙ still_named ∙ ap (λ (x : ℕ). Some x) same)
         (λ far stays. let had : find client_cmp numbers row.client ≡ Some n = indexed.are_named n row (sym stays ∙ h) in
-            at_key client_cmp client_key old.client None numbers' numbers'' unnamed row.client
-                (λ same. absurd (far (some_same number n (sym had_old ∙ ap (find client_cmp numbers) same ∙ had))))
-                (λ away kept. at_key client_cmp client_key client (Some number) numbers numbers' named row.client
-                    (λ same. absurd (other_client row.client n had same))
-                    (λ away' kept'. kept ∙ kept' ∙ had)))
+        at_key client_cmp client_key old.client None numbers' numbers'' unnamed row.client
+        (λ same. absurd (far (some_same number n (sym had_old ∙ ap (find client_cmp numbers) same ∙ had))))
+        (λ away kept. at_key client_cmp client_key client (Some number) numbers numbers' named row.client
+        (λ same. absurd (other_client row.client n had same))
+        (λ away' kept'. kept ∙ kept' ∙ had)))
 
     open_over : (c : ClientId) (n : ℕ) → find client_cmp numbers'' c ≡ Some n → is_open_for rows' n c ≡ true
     open_over c n h = at_key client_cmp client_key old.client None numbers' numbers'' unnamed c
         (λ same. absurd (none_some n (sym gone ∙ ap (find client_cmp numbers'') same ∙ h)))
         (λ away kept. at_key client_cmp client_key client (Some number) numbers numbers' named c
-            (λ same. its_session c n same (sym kept ∙ h))
-            (λ away' kept'. let before : is_open_for rows n c ≡ true = indexed.are_open c n (sym kept' ∙ sym kept ∙ h) in
-                at_key nat_cmp number_key number (Some fresh) rows rows' puts n
-                    (λ same. let there = row_where rows n c before in
-                        let old_is : old ≡ there.0 = some_same old there.0 (sym was ∙ ap (find nat_cmp rows) same ∙ there.1) in
-                        absurd (away (ap (λ (r : SessionRow). r.client) old_is ∙ there.2)))
-                    (λ far stays. ap (is_of c) stays ∙ before)))
+        (λ same. its_session c n same (sym kept ∙ h))
+        (λ away' kept'. let before : is_open_for rows n c ≡ true = indexed.are_open c n (sym kept' ∙ sym kept ∙ h) in
+        at_key nat_cmp number_key number (Some fresh) rows rows' puts n
+        (λ same. let there = row_where rows n c before in
+        let old_is : old ≡ there.0 = some_same old there.0 (sym was ∙ ap (find nat_cmp rows) same ∙ there.1) in
+        absurd (away (ap (λ (r : SessionRow). r.client) old_is ∙ there.2)))
+        (λ far stays. ap (is_of c) stays ∙ before)))
 
     pub opened_over : IsIndexed rows' numbers''
     opened_over = record { are_named = named_over; are_open = open_over }
@@ -157,9 +157,9 @@ module _ (rows rows' : List (ℕ × SessionRow)) (numbers numbers' : List (Clien
 pub taken_back : (rows : List (ℕ × SessionRow)) (numbers numbers' numbers'' : List (ClientId × ℕ)) (client : ClientId) (number : ℕ) → IsIndexed rows numbers → find client_cmp numbers client ≡ None
     → Sets client_cmp client (Some number) numbers numbers' → Sets client_cmp client None numbers' numbers'' → IsIndexed rows numbers''
 taken_back rows numbers numbers' numbers'' client number indexed none named unnamed = record {
-    are_named = λ n row h. as_before row.client ∙ indexed.are_named n row h;
-    are_open = λ c n h. indexed.are_open c n (sym (as_before c) ∙ h);
-  } where
+  are_named = λ n row h. as_before row.client ∙ indexed.are_named n row h;
+  are_open = λ c n h. indexed.are_open c n (sym (as_before c) ∙ h);
+} where
   as_before : (c : ClientId) → find client_cmp numbers'' c ≡ find client_cmp numbers c
   as_before c = at_key client_cmp client_key client None numbers' numbers'' unnamed c
       (λ same. ap (find client_cmp numbers'') (sym same) ∙ set_here client_cmp client_key client None numbers' numbers'' unnamed ∙ sym none ∙ ap (find client_cmp numbers) same)
@@ -169,28 +169,28 @@ taken_back rows numbers numbers' numbers'' client number indexed none named unna
 pub closed_some : (rows rows' : List (ℕ × SessionRow)) (numbers numbers' : List (ClientId × ℕ)) (session : ℕ) (row : SessionRow) → IsIndexed rows numbers → find nat_cmp rows session ≡ Some row
     → Sets nat_cmp session None rows rows' → Sets client_cmp row.client None numbers numbers' → IsIndexed rows' numbers'
 closed_some rows rows' numbers numbers' session row indexed there goes unnamed = record {
-    are_named = λ n other h. at_key nat_cmp number_key session None rows rows' goes n
-        (λ same. absurd (none_some other (sym (set_here nat_cmp number_key session None rows rows' goes) ∙ ap (find nat_cmp rows') same ∙ h)))
-        (λ far stays. let had : find client_cmp numbers other.client ≡ Some n = indexed.are_named n other (sym stays ∙ h) in
-            at_key client_cmp client_key row.client None numbers numbers' unnamed other.client
-                (λ same. absurd (far (some_same session n (sym (indexed.are_named session row there) ∙ ap (find client_cmp numbers) same ∙ had))))
-                (λ away kept. kept ∙ had));
-    are_open = λ c n h. at_key client_cmp client_key row.client None numbers numbers' unnamed c
-        (λ same. absurd (none_some n (sym (set_here client_cmp client_key row.client None numbers numbers' unnamed) ∙ ap (find client_cmp numbers') same ∙ h)))
-        (λ away kept. let was : is_open_for rows n c ≡ true = indexed.are_open c n (sym kept ∙ h) in
-            at_key nat_cmp number_key session None rows rows' goes n
-                (λ same. let its = row_where rows n c was in
-                    let row_is : row ≡ its.0 = some_same row its.0 (sym there ∙ ap (find nat_cmp rows) same ∙ its.1) in
-                    absurd (away (ap (λ (r : SessionRow). r.client) row_is ∙ its.2)))
-                (λ far stays. ap (is_of c) stays ∙ was));
-  }
+  are_named = λ n other h. at_key nat_cmp number_key session None rows rows' goes n
+      (λ same. absurd (none_some other (sym (set_here nat_cmp number_key session None rows rows' goes) ∙ ap (find nat_cmp rows') same ∙ h)))
+      (λ far stays. let had : find client_cmp numbers other.client ≡ Some n = indexed.are_named n other (sym stays ∙ h) in
+      at_key client_cmp client_key row.client None numbers numbers' unnamed other.client
+      (λ same. absurd (far (some_same session n (sym (indexed.are_named session row there) ∙ ap (find client_cmp numbers) same ∙ had))))
+      (λ away kept. kept ∙ had));
+  are_open = λ c n h. at_key client_cmp client_key row.client None numbers numbers' unnamed c
+      (λ same. absurd (none_some n (sym (set_here client_cmp client_key row.client None numbers numbers' unnamed) ∙ ap (find client_cmp numbers') same ∙ h)))
+      (λ away kept. let was : is_open_for rows n c ≡ true = indexed.are_open c n (sym kept ∙ h) in
+      at_key nat_cmp number_key session None rows rows' goes n
+      (λ same. let its = row_where rows n c was in
+      let row_is : row ≡ its.0 = some_same row its.0 (sym there ∙ ap (find nat_cmp rows) same ∙ its.1) in
+      absurd (away (ap (λ (r : SessionRow). r.client) row_is ∙ its.2)))
+      (λ far stays. ap (is_of c) stays ∙ was));
+}
 
 -- a session that wasn't open
 pub closed_none : (rows rows' : List (ℕ × SessionRow)) (numbers : List (ClientId × ℕ)) (session : ℕ) → IsIndexed rows numbers → find nat_cmp rows session ≡ None → Sets nat_cmp session None rows rows' → IsIndexed rows' numbers
 closed_none rows rows' numbers session indexed none goes = record {
-    are_named = λ n row h. indexed.are_named n row (sym (as_before n) ∙ h);
-    are_open = λ c n h. ap (is_of c) (as_before n) ∙ indexed.are_open c n h;
-  } where
+  are_named = λ n row h. indexed.are_named n row (sym (as_before n) ∙ h);
+  are_open = λ c n h. ap (is_of c) (as_before n) ∙ indexed.are_open c n h;
+} where
   as_before : (n : ℕ) → find nat_cmp rows' n ≡ find nat_cmp rows n
   as_before n = at_key nat_cmp number_key session None rows rows' goes n
       (λ same. ap (find nat_cmp rows') (sym same) ∙ set_here nat_cmp number_key session None rows rows' goes ∙ sym none ∙ ap (find nat_cmp rows) same)
@@ -200,16 +200,16 @@ closed_none rows rows' numbers session indexed none goes = record {
 pub kept_client : (rows rows' : List (ℕ × SessionRow)) (numbers : List (ClientId × ℕ)) (session : ℕ) (row next : SessionRow) → IsIndexed rows numbers → find nat_cmp rows session ≡ Some row → next.client ≡ row.client
     → Sets nat_cmp session (Some next) rows rows' → IsIndexed rows' numbers
 kept_client rows rows' numbers session row next indexed there its puts = record {
-    are_named = λ n other h. at_key nat_cmp number_key session (Some next) rows rows' puts n
-        (λ same. let next_is : next ≡ other = some_same next other (sym here ∙ ap (find nat_cmp rows') same ∙ h) in
-            ap (find client_cmp numbers) (ap (λ (r : SessionRow). r.client) (sym next_is) ∙ its) ∙ indexed.are_named session row there ∙ ap (λ (x : ℕ). Some x) same)
-        (λ far stays. indexed.are_named n other (sym stays ∙ h));
-    are_open = λ c n h. let was : is_open_for rows n c ≡ true = indexed.are_open c n h in
-        at_key nat_cmp number_key session (Some next) rows rows' puts n
-            (λ same. let owner = row_where rows n c was in
-                let row_is : row ≡ owner.0 = some_same row owner.0 (sym there ∙ ap (find nat_cmp rows) same ∙ owner.1) in
-                open_where rows' n next c (ap (find nat_cmp rows') (sym same) ∙ here) (its ∙ ap (λ (r : SessionRow). r.client) row_is ∙ owner.2))
-            (λ far stays. ap (is_of c) stays ∙ was);
-  } where
+  are_named = λ n other h. at_key nat_cmp number_key session (Some next) rows rows' puts n
+      (λ same. let next_is : next ≡ other = some_same next other (sym here ∙ ap (find nat_cmp rows') same ∙ h) in
+      ap (find client_cmp numbers) (ap (λ (r : SessionRow). r.client) (sym next_is) ∙ its) ∙ indexed.are_named session row there ∙ ap (λ (x : ℕ). Some x) same)
+      (λ far stays. indexed.are_named n other (sym stays ∙ h));
+  are_open = λ c n h. let was : is_open_for rows n c ≡ true = indexed.are_open c n h in
+      at_key nat_cmp number_key session (Some next) rows rows' puts n
+      (λ same. let owner = row_where rows n c was in
+      let row_is : row ≡ owner.0 = some_same row owner.0 (sym there ∙ ap (find nat_cmp rows) same ∙ owner.1) in
+      open_where rows' n next c (ap (find nat_cmp rows') (sym same) ∙ here) (its ∙ ap (λ (r : SessionRow). r.client) row_is ∙ owner.2))
+      (λ far stays. ap (is_of c) stays ∙ was);
+} where
   here : find nat_cmp rows' session ≡ Some next
   here = set_here nat_cmp number_key session (Some next) rows rows' puts

@@ -10,11 +10,11 @@ ghost use Rattle.cp_session.specs.Creation.{IsCreated, IsSessionError, created};
 ghost use Rattle.cp_session.specs.Beats.{version_after, with_beat};
 ghost use Rattle.cp_session.specs.Tables.{MakesTable, IsTable};
 
+use crate::beat::{beat_row, beaten_row};
 use crate::close::{close_each, close_one};
 use crate::error::SessionError;
 use crate::expire::unchanged;
-use crate::open::{meet, open_at, Met, MOST_ROWS};
-use crate::beat::{beat_row, beaten_row};
+use crate::open::{MOST_ROWS, Met, meet, open_at};
 use crate::restore::maps_of;
 use cp_base::{ClientId, Items, NoMemory};
 use cp_group_state::SessionRow;

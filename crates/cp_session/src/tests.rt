@@ -63,7 +63,12 @@ fn a_full_table_opens_no_more(rt: HostRuntime) -> Result<(), Fail> {
     for number in 1..10_001u64 {
         sessions.create(number, &client(number))?;
     }
-    assert!(rt; matches!(sessions.create(10_001, &client(10_001)), Err(SessionError::TableFull(10_000))));
+    assert!(rt;
+        matches!(
+            sessions.create(10_001, &client(10_001)),
+            Err(SessionError::TableFull(10_000))
+        )
+    );
     assert_eq!(rt; sessions.create(10_001, &client(7))?, 7);
     assert!(rt; sessions.close(7));
     assert_eq!(rt; sessions.create(10_002, &client(10_001))?, 10_002);
@@ -72,8 +77,14 @@ fn a_full_table_opens_no_more(rt: HostRuntime) -> Result<(), Fail> {
 
 #[test]
 fn tables_are_made_of_rows(rt: HostRuntime) -> Result<(), Fail> {
-    let row = SessionRow { client: client(1), version: 3 };
-    let other = SessionRow { client: client(2), version: 0 };
+    let row = SessionRow {
+        client: client(1),
+        version: 3,
+    };
+    let other = SessionRow {
+        client: client(2),
+        version: 0,
+    };
     let rows = Items::from_vec(Vec::from_array(rt.alloc(), [(4, row), (6, other)])?);
     let mut sessions = Sessions::from_rows(rt.alloc(), rows)?.ok_or("two sessions")?;
     assert_eq!(rt; sessions.version(4), Some(3));
