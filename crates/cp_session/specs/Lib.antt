@@ -1,0 +1,7 @@
+pub mod Index
+pub mod Beats
+pub mod Closings
+pub mod Creation
+pub mod Meetings
+pub mod Rule
+pub mod Tables
