@@ -5,3 +5,7 @@ pub mod Quiet
 pub mod Votes
 pub mod Commits
 pub mod Elections
+pub mod Differences
+pub mod Appends
+pub mod Replies
+pub mod Snapshots
