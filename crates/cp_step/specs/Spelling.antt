@@ -1,6 +1,6 @@
 -- What the bytes of entries and of snapshots say of configurations. All words on these bytes stand here, so that grammars can be put
 -- in their place.
-use Rattle.std.specs.Prelude.{ℕ, ◌-◌, ◌^◌, ◌==◌, List, [], ◌∷◌, ◌++◌, length, take, drop, Option, Some, None, option_map, Ok, Err, if◌then◌else◌}
+use Rattle.std.specs.Prelude.{ℕ, ◌≡◌, ◌≤◌, ◌-◌, ◌^◌, ◌==◌, List, [], ◌∷◌, ◌++◌, length, take, drop, Option, Some, None, option_map, Ok, Err, if◌then◌else◌}
 use Rattle.std.specs.Int.{w32, w64, from_be_bytes, to_be_bytes}
 use Rattle.cp_base.specs.declared.identifier.Invocation.{Invocation}
 use Rattle.cp_grammar.specs.Grammar.{Grammar, Read, ◌then◌, mapped}
@@ -66,3 +66,20 @@ head_of bytes = value_read (snapshot_head.reading bytes)
 
 abbrev pub snapshot_bytes : SnapshotHead → List ℕ → List ℕ
 snapshot_bytes head machine = snapshot_head.spelling head ++ machine
+
+-- a head that has a spelling
+pub record FitsHead (head : SnapshotHead) : Type 0 where
+  pub term : head.term ≤ 2 ^ 62
+  pub index : head.configuration.index ≤ 2 ^ 62
+  pub plan : head.configuration.plan ≤ 2 ^ 64 - 1
+  pub members : members.Fits head.configuration.members
+
+-- ---- laws
+
+-- A members entry has no other members than it was made with. The identifier of a client has sixteen bytes.
+abbrev pub ChangesAreSpelled : Type 0
+ChangesAreSpelled = (call : Option Invocation) (plan : ℕ) (ms ns : List ℕ) → ((c : Invocation) → call ≡ Some c → length c.client.0 ≡ 16) → members_in (members_entry call plan ms) ≡ Some ns → ns ≡ ms
+
+-- What a snapshot begins with is read from its bytes.
+abbrev pub SnapshotsReadBack : Type 0
+SnapshotsReadBack = (head : SnapshotHead) (machine : List ℕ) → FitsHead head → head_of (snapshot_bytes head machine) ≡ Some head

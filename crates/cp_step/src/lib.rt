@@ -1,11 +1,12 @@
 //! The legal local step of one member of a group, as definitions: what a member keeps, what comes to it, and what it
 //! then writes, sends and leaves. One file of `specs/` for each rule. No code: the functions below state steps that
-//! were worked out by hand.
+//! were worked out by hand, and laws on bytes.
 #![tactic(auto)]
 
 ghost use Rattle.std.specs.Prelude.{◌≡◌, ◌++◌, true, false, [], ◌∷◌, drop, Some, None};
 ghost use Rattle.cp_ops_next.specs.declared.refusal.Refusal.TheVariants.{WrongMembers, ChangePending, NoOwnTermCommit, AlreadyThere, NotThere, LastMember};
 ghost use Rattle.cp_step.specs.declared.outcome.Outcome.TheVariants.{Refused};
+ghost use Rattle.cp_step.specs.Spelling.{ChangesAreSpelled, SnapshotsReadBack};
 ghost use Rattle.cp_step.specs.Volatile.{started};
 ghost use Rattle.cp_step.specs.Local.{does, reply, Got, Append, AppendReply, ChangeMembers, Confirmed};
 ghost use Rattle.cp_step.specs.Steps.{step};
@@ -93,4 +94,14 @@ pub fn reads_are_lost()
     ensures refused { drop 22 has_lost.sent ≡ mail 3 1 (Confirmed 2 false 0) ∷ [] }
     ensures lost { (has_lost.seats 1).last.lost ≡ look ∷ [] }
     ensures answered { (has_lost.seats 1).last.answered ≡ [] }
+{}
+
+/// A members entry has the members that it was made with, and no others.
+pub fn changes_are_spelled()
+    ensures { ChangesAreSpelled }
+{}
+
+/// What a snapshot begins with is read from its bytes.
+pub fn snapshots_read_back()
+    ensures { SnapshotsReadBack }
 {}

@@ -60,7 +60,7 @@ abbrev pub RaisesSnapshot : PersistentState → PersistentState → Type 0
 RaisesSnapshot p q = (p.base < q.base) × ((head : SnapshotHead) × (head_of q.snapshot ≡ Some head) × (head.term ≡ q.base_term) × (head.configuration ≡ q.base_configuration))
 
 -- what was received goes on by the chunk that came
-pub record GoesOn (v : VolatileState) (came : Option Wire) (after : VolatileState) : Type 0 where
+pub record GoesOn (v : VolatileState) (came : Option Wire) (after : Option Received) : Type 0 where
   pub sender : ℕ
   pub term : ℕ
   pub index : ℕ
@@ -70,10 +70,10 @@ pub record GoesOn (v : VolatileState) (came : Option Wire) (after : VolatileStat
   pub all : List ℕ
   pub got : came ≡ Some (Chunk sender term index offset is_last bytes)
   pub joins : joined (received_of term index v.received) offset bytes ≡ Some all
-  pub received : after.received ≡ Some (record { term = term; index = index; bytes = all })
+  pub received : after ≡ Some (record { term = term; index = index; bytes = all })
 
 abbrev pub Receives : VolatileState → Option Wire → VolatileState → Type 0
-Receives v came after = (after.received ≡ v.received) ⊎ ((after.received ≡ None) ⊎ GoesOn v came after)
+Receives v came after = (after.received ≡ v.received) ⊎ ((after.received ≡ None) ⊎ GoesOn v came after.received)
 
 -- All that is shown of a step that leaves these and sends this.
 pub record Left (t : Turn) (p : PersistentState) (v : VolatileState) (sends : List Sent) : Type 0 where
