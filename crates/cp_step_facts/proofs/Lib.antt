@@ -9,3 +9,4 @@ pub mod Differences
 pub mod Appends
 pub mod Replies
 pub mod Snapshots
+pub mod Changes
