@@ -3,7 +3,7 @@ use Rattle.std.specs.Prelude.{ℕ, suc, ◌==◌, min, max, Bool, not, ◌&&◌,
 use Rattle.cp_step.specs.declared.peer.Peer.{Peer}
 use Rattle.cp_step.specs.Persistent.{PersistentState, last_index, members, is_member}
 use Rattle.cp_step.specs.Volatile.{VolatileState, peer, with_peer}
-use Rattle.cp_step.specs.Local.{LocalStep, does, is_leader}
+use Rattle.cp_step.specs.Local.{LocalStep, does, leads_and, is_leader}
 use Rattle.cp_step.specs.Terms.{adopts}
 use Rattle.cp_step.specs.Sending.{append_to}
 use Rattle.cp_step.specs.Commit.{commits}
@@ -20,7 +20,7 @@ abbrev pub matches : ℕ → PersistentState → VolatileState → ℕ → ℕ �
 matches me p v from index =
     if nat_lt (peer v.peers from).matched index && nat_le index (last_index p)
     then (let state = commits me p (with_peer from (matched_to (peer v.peers from) index) v) in
-    does None state (if is_leader state.role && nat_lt index (last_index p) then append_to p state from ∷ [] else []))
+    leads_and (does None state (if is_leader state.role && nat_lt index (last_index p) then append_to p state from ∷ [] else [])))
     else does None v []
 
 -- the next index to try, where a member lacks the one before it

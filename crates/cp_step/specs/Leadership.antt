@@ -5,7 +5,7 @@ use Rattle.cp_step.specs.declared.role.Role.TheVariants.{Leader}
 use Rattle.cp_step.specs.Spelling.{empty_entry}
 use Rattle.cp_step.specs.Persistent.{PersistentState, Part, AppendPart, with_part, last_index}
 use Rattle.cp_step.specs.Volatile.{VolatileState, everywhere, new_peer}
-use Rattle.cp_step.specs.Local.{LocalStep, does}
+use Rattle.cp_step.specs.Local.{LocalStep, does, leads_and}
 use Rattle.cp_step.specs.Sending.{appends}
 use Rattle.cp_step.specs.Commit.{commits}
 
@@ -17,7 +17,7 @@ abbrev pub creates : ℕ → PersistentState → VolatileState → Ballot → Li
 creates me p v b entry =
     let part = created_part p b entry in
     let state = commits me (with_part part p) v in
-    does (Some part) state (appends me (with_part part p) state)
+    leads_and (does (Some part) state (appends me (with_part part p) state))
 
 -- Nothing is known of the others but that they may lack what is created next.
 abbrev pub leading : ℕ → PersistentState → VolatileState → VolatileState

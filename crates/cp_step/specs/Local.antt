@@ -38,23 +38,17 @@ pub data Event : Type 0 where
   Read : (call : Invocation) (attempt : ℕ) (op : List ℕ) → Event
 
 -- What a step does, in this order: it writes the one part, if any; then it sends, in this order; then it leaves this state. With it go
--- the answer to the caller, and the reads that can be answered and those that are lost.
+-- whether the member leads its term in the step, also where it then steps down; the answer to the caller; and the reads that can be
+-- answered and those that are lost.
 pub record LocalStep : Type 0 where
   pub part : Option Part
   pub sends : List Sent
   pub state : VolatileState
+  pub leads : Bool
   pub outcome : Outcome
   pub answered : List Look
   pub lost : List Look
 
-abbrev pub does : Option Part → VolatileState → List Sent → LocalStep
-does part state sends = record { part = part; sends = sends; state = state; outcome = Done; answered = []; lost = [] }
-
-abbrev pub send : ℕ → Body → Sent
-send to body = record { to = to; body = body }
-
-abbrev pub reply : ℕ → Body → List Sent
-reply to body = send to body ∷ []
 
 -- ---- roles
 
@@ -75,3 +69,18 @@ is_pre_candidate Follower = false
 is_pre_candidate PreCandidate = true
 is_pre_candidate Candidate = false
 is_pre_candidate Leader = false
+
+-- ---- what rules do
+
+abbrev pub does : Option Part → VolatileState → List Sent → LocalStep
+does part state sends = record { part = part; sends = sends; state = state; leads = is_leader state.role; outcome = Done; answered = []; lost = [] }
+
+-- as leader, which may step down at the end
+abbrev pub leads_and : LocalStep → LocalStep
+leads_and s = record s { leads = true }
+
+abbrev pub send : ℕ → Body → Sent
+send to body = record { to = to; body = body }
+
+abbrev pub reply : ℕ → Body → List Sent
+reply to body = send to body ∷ []

@@ -74,7 +74,7 @@ module _ (t : Turn) (from term previous previous_term told : ℕ) (entries : Lis
   }
 
   -- the log has what the message says: as it was, or after a replacement
-  taken : (q : ℕ) (es log : List Entry) → Placed q es → q ≤ length log → t.v.commit ≤ t.p.base + length log → ((log ≡ t.p.log) × HasTerms t.p.log q es (length es)) ⊎ Replaces t.p.log q es log → Left t (stored log) state yes_sent
+  taken : (q : ℕ) (es log : List Entry) → Placed q es → q ≤ length log → t.v.commit ≤ t.p.base + length log → ((log ≡ t.p.log) × HasTerms t.p.log q es (length es)) ⊎ Replaces t.p.log q es log → Left t false (stored log) state yes_sent
   taken q es log placed fits old change =
       let p' = stored log in
       let ad = adopting term t.p t.v in
@@ -87,7 +87,6 @@ module _ (t : Turn) (from term previous previous_term told : ℕ) (entries : Lis
       let calm = calm_low t p' state (follower_or_leader Follower refl) (follower_or_candidate Follower refl) in
       let above = t.sound.above_base in
       record {
-        leads = false;
         facts = record {
           named = t.sound.named;
           delivered = t.delivered;
@@ -145,7 +144,7 @@ module _ (t : Turn) (from term previous previous_term told : ℕ) (entries : Lis
       look : (o : Option Difference) → difference (term_at t.p) (t.p.base + q) es ≡ o → Good t (takes t.p (adopted term (ballot t.p)) (following from t.v) from told index o)
       look None found =
           let old = t.sound.within in
-          subst (λ (z : PersistentState). Left t z state yes_sent) (sym (after_ballot t.p (adopted term (ballot t.p)))) (taken q es t.p.log placed fits old (inl (refl, none_replaced t.p q es found)))
+          subst (λ (z : PersistentState). Left t false z state yes_sent) (sym (after_ballot t.p (adopted term (ballot t.p)))) (taken q es t.p.log placed fits old (inl (refl, none_replaced t.p q es found)))
       look (Some d) found =
           let log = take (d.after - t.p.base) t.p.log ++ d.entries in
           let x = differs_at t.p (t.p.base + q) es d found in

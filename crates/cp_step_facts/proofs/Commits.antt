@@ -246,7 +246,6 @@ module _ (t : Turn) (w : VolatileState) (b : Ballot) (entry : List ℕ) (c : Cre
 
   pub creates_good : Good t (creates t.me t.p w b entry)
   creates_good = record {
-    leads = true;
     facts = created_facts;
     says = sends_all t (created t.p b entry) after_created (λ h. created_placed);
     sound = created_sound;

@@ -41,7 +41,6 @@ candidate_good t w commit received =
     let a = t.sound.above_base in
     let b = t.sound.within in
     record {
-      leads = false;
       facts = rests t false p' v' (inl ((refl, refl, refl), refl)) (omega arith) (λ e ne. absurd (omega (arith, e))) (omega (arith, a, commit)) commit (record {
         leading = λ h. absurd (let z : Candidate ≡ Leader = seen_leader Candidate h in cc);
         elected = λ h. absurd (true≢false (sym h));

@@ -10,3 +10,4 @@ pub mod Appends
 pub mod Replies
 pub mod Snapshots
 pub mod Changes
+pub mod Ticks

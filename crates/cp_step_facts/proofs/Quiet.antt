@@ -12,7 +12,7 @@ use Rattle.cp_step.specs.Local.{Sent, LocalStep, does, is_leader}
 use Rattle.cp_step.specs.Terms.{adopted, steps_down, steps_down_for, adopts}
 use Rattle.cp_step_facts.specs.Seen.{seen_role}
 use Rattle.cp_step_facts.specs.Soundness.{IsSound, IsPlaced}
-use Rattle.cp_step_facts.proofs.Basics.{either, leader_is, seen_leader, seen_candidate, follower_or_leader, follower_or_candidate}
+use Rattle.cp_step_facts.proofs.Basics.{either, leader_is, not_leader, seen_leader, seen_candidate, follower_or_leader, follower_or_candidate}
 use Rattle.cp_step_facts.proofs.Turns.{Turn, here, core, Truth, Receives, Left, Good}
 
 -- what a ballot part leaves
@@ -55,12 +55,12 @@ pub record Calm (t : Turn) (leads : Bool) (p : PersistentState) (v : VolatileSta
 
 -- neither leader nor candidate
 pub calm_low : (t : Turn) (p : PersistentState) (v : VolatileState) → v.role ≢ Leader → v.role ≢ Candidate → Calm t false p v
-calm_low t p v not_leader not_candidate = record {
-  leading = λ h. absurd (not_leader (seen_leader v.role h));
+calm_low t p v leads_not not_candidate = record {
+  leading = λ h. absurd (leads_not (seen_leader v.role h));
   elected = λ h. absurd (true≢false (sym h));
   candidate = λ h. absurd (not_candidate (seen_candidate v.role h));
   apart = λ h. refl;
-  matched = λ h. absurd (not_leader (seen_leader v.role h));
+  matched = λ h. absurd (leads_not (seen_leader v.role h));
 }
 
 -- Role, term and matched indexes stay, and a yes is counted only where it came.
@@ -97,27 +97,26 @@ rests t leads p v log up vote above commit calm = record {
 
 -- a role that neither leads nor is elected
 pub sound_low : (t : Turn) (term vote : ℕ) (v : VolatileState) → v.role ≢ Leader → v.role ≢ Candidate → v.commit ≡ t.v.commit → IsSound t.me (with_ballot t.p term vote) v
-sound_low t term vote v not_leader not_candidate commit = let a = t.sound.above_base in let b = t.sound.within in record {
+sound_low t term vote v leads_not not_candidate commit = let a = t.sound.above_base in let b = t.sound.within in record {
   named = t.sound.named;
   above_base = omega (arith, a, commit);
   within = omega (arith, b, commit);
   no_base = t.sound.no_base;
   voted = λ h. absurd (not_candidate h);
   campaigns = λ h. absurd (not_candidate h);
-  leads = λ h. absurd (not_leader h);
-  peers = λ h. absurd (not_leader h);
+  leads = λ h. absurd (leads_not h);
+  peers = λ h. absurd (leads_not h);
 }
 
 pub quiet_low : (t : Turn) (term vote : ℕ) (v : VolatileState) (sends : List Sent) → t.p.term ≤ term → (t.p.term ≡ term → t.p.vote ≢ 0 → vote ≡ t.p.vote) → v.role ≢ Leader → v.role ≢ Candidate → v.commit ≡ t.v.commit
-    → Receives t.v t.came v → All (Truth t false (with_ballot t.p term vote) v) sends → Left t (with_ballot t.p term vote) v sends
-quiet_low t term vote v sends up keeps not_leader not_candidate commit receives says = record {
-  leads = false;
-  facts = rests t false (with_ballot t.p term vote) v (inl ((refl, refl, refl), refl)) up keeps (let a = t.sound.above_base in omega (arith, a, commit)) commit (calm_low t (with_ballot t.p term vote) v not_leader not_candidate);
+    → Receives t.v t.came v → All (Truth t false (with_ballot t.p term vote) v) sends → Left t (is_leader v.role) (with_ballot t.p term vote) v sends
+quiet_low t term vote v sends up keeps leads_not not_candidate commit receives says = subst (λ b. Left t b (with_ballot t.p term vote) v sends) (sym (not_leader v.role leads_not)) (record {
+  facts = rests t false (with_ballot t.p term vote) v (inl ((refl, refl, refl), refl)) up keeps (let a = t.sound.above_base in omega (arith, a, commit)) commit (calm_low t (with_ballot t.p term vote) v leads_not not_candidate);
   says = says;
-  sound = sound_low t term vote v not_leader not_candidate commit;
+  sound = sound_low t term vote v leads_not not_candidate commit;
   snapshot = inl (refl, refl, refl, refl);
   receives = receives;
-}
+})
 
 -- what stays with the role
 pub record SameRole (t : Turn) (v : VolatileState) : Type 0 where
@@ -140,9 +139,8 @@ sound_same t vote v keeps same = let a = t.sound.above_base in let b = t.sound.w
 
 pub quiet_same : (t : Turn) (vote : ℕ) (v : VolatileState) (sends : List Sent) → (t.p.vote ≢ 0 → vote ≡ t.p.vote) → SameRole t v
     → ((f : ℕ) → has_voted v.votes f ≡ true → Counts (here t) (core t (is_leader v.role) (with_ballot t.p t.p.term vote) v) f)
-    → All (Truth t (is_leader v.role) (with_ballot t.p t.p.term vote) v) sends → Left t (with_ballot t.p t.p.term vote) v sends
+    → All (Truth t (is_leader v.role) (with_ballot t.p t.p.term vote) v) sends → Left t (is_leader v.role) (with_ballot t.p t.p.term vote) v sends
 quiet_same t vote v sends keeps same counted says = record {
-  leads = is_leader v.role;
   facts = rests t (is_leader v.role) (with_ballot t.p t.p.term vote) v (inl ((refl, refl, refl), refl)) (le_refl t.p.term) (λ e. keeps) (let a = t.sound.above_base in omega (arith, a, same.commit)) same.commit
       (calm_same t (with_ballot t.p t.p.term vote) v refl same.role (λ f. ap (λ l. (peer l f).matched) same.peers) counted);
   says = says;
@@ -171,11 +169,11 @@ pub takes_on : (t : Turn) (term vote : ℕ) (part : Option Part) (v : VolatileSt
     → ((leads : Bool) → All (Truth t leads (with_ballot t.p (adopted term (ballot t.p)).term vote) v) sends) → Good t (does part v sends)
 takes_on t term vote part v sends left keeps commit receives role says =
     let ad = adopting term t.p t.v in
-    subst (λ (q : PersistentState). Left t q v sends) (sym left) (⊎_elim
+    subst (λ (q : PersistentState). Left t (is_leader v.role) q v sends) (sym left) (⊎_elim
     (λ (f : v.role ≡ Follower). quiet_low t (adopted term (ballot t.p)).term vote v sends ad.up keeps (follower_or_leader v.role f) (follower_or_candidate v.role f) commit receives (says false))
     (λ (x : (t.p.term ≡ (adopted term (ballot t.p)).term) × SameRole t v × (v.votes ≡ t.v.votes)).
     let all = says (is_leader v.role) in
-    subst (λ (u : ℕ). Left t (with_ballot t.p u vote) v sends) x.0 (quiet_same t vote v sends (keeps x.0) x.1 (λ f h. inl (ap (λ l. has_voted l f) (sym x.2) ∙ h)) (subst (λ (u : ℕ). All (Truth t (is_leader v.role) (with_ballot t.p u vote) v) sends) (sym x.0) all)))
+    subst (λ (u : ℕ). Left t (is_leader v.role) (with_ballot t.p u vote) v sends) x.0 (quiet_same t vote v sends (keeps x.0) x.1 (λ f h. inl (ap (λ l. has_voted l f) (sym x.2) ∙ h)) (subst (λ (u : ℕ). All (Truth t (is_leader v.role) (with_ballot t.p u vote) v) sends) (sym x.0) all)))
     role)
 
 -- the same, with the adopted ballot

@@ -8,7 +8,7 @@ use Rattle.cp_step.specs.declared.peer.Peer.{Peer}
 use Rattle.cp_step.specs.declared.role.Role.TheVariants.{Candidate, Leader}
 use Rattle.cp_step.specs.Persistent.{last_index, members, is_member}
 use Rattle.cp_step.specs.Volatile.{VolatileState, peer, with_peer, new_peer}
-use Rattle.cp_step.specs.Local.{Sent, LocalStep, does, reply, send, is_leader}
+use Rattle.cp_step.specs.Local.{Sent, LocalStep, does, leads_and, reply, send, is_leader}
 use Rattle.cp_step.specs.Terms.{adopts}
 use Rattle.cp_step.specs.Sending.{append_to, chunk_from}
 use Rattle.cp_step.specs.Commit.{commit_found, commits}
@@ -17,7 +17,7 @@ use Rattle.cp_step.specs.Snapshots.{sends_more, on_snapshot_reply}
 use Rattle.cp_step_facts.specs.Seen.{seen_role}
 use Rattle.cp_step_facts.specs.Soundness.{IsPlaced}
 use Rattle.cp_step_facts.proofs.Basics.{either, from_not, leader_is, seen_candidate, leader_or_candidate, follower_or_candidate, set_place, set_index, one}
-use Rattle.cp_step_facts.proofs.Turns.{Turn, got, here, core, Truth, Good}
+use Rattle.cp_step_facts.proofs.Turns.{Turn, got, here, core, Truth, Left, Good}
 use Rattle.cp_step_facts.proofs.Quiet.{silent}
 use Rattle.cp_step_facts.proofs.Votes.{adopts_or}
 use Rattle.cp_step_facts.proofs.Commits.{own_chunk, sends_one, committing, commit_rises, commit_facts}
@@ -32,9 +32,8 @@ pub record Led (t : Turn) (v : VolatileState) : Type 0 where
   pub matched : (f : ℕ) → ((peer v.peers f).matched ≡ 0) ⊎ MatchedUpto (here t) (core t true t.p v) f (peer v.peers f).matched
   pub placed : (f : ℕ) → IsPlaced (last_index t.p) (length t.p.snapshot) (peer v.peers f)
 
-pub led : (t : Turn) (v : VolatileState) (sends : List Sent) → t.v.role ≡ Leader → Led t v → All (Truth t true t.p v) sends → Good t (does None v sends)
+pub led : (t : Turn) (v : VolatileState) (sends : List Sent) → t.v.role ≡ Leader → Led t v → All (Truth t true t.p v) sends → Left t true t.p v sends
 led t v sends leader l says = let a = t.sound.above_base in let b = l.up in record {
-  leads = true;
   facts = record {
     named = t.sound.named;
     delivered = t.delivered;
@@ -81,6 +80,10 @@ module _ (t : Turn) (leader : t.v.role ≡ Leader) where
   as_before : (from : ℕ) (v : VolatileState) → MatchedUpto (here t) (core t true t.p v) from (peer t.v.peers from).matched
   as_before from v = inl (ap seen_role leader, refl, le_refl (peer t.v.peers from).matched)
 
+  -- one that stays leader
+  stays_leader : (v : VolatileState) (sends : List Sent) → v.role ≡ t.v.role → Left t true t.p v sends → Good t (does None v sends)
+  stays_leader v sends same l = subst (λ b. Left t b t.p v sends) (sym (ap is_leader (same ∙ leader))) l
+
   -- a peer changes, but not what it is known to hold
   same_match : (from : ℕ) (x : Peer) → x.matched ≡ (peer t.v.peers from).matched → IsPlaced (last_index t.p) (length t.p.snapshot) x → Led t (with_peer from x t.v)
   same_match from x same placed = record {
@@ -101,7 +104,7 @@ module _ (t : Turn) (leader : t.v.role ≡ Leader) where
       let c = committing t.me t.p w (commit_found t.me t.p w) in
       let rises = commit_rises t.me t.p w t.sound.within in
       let sends : List Sent = if is_leader v'.role && nat_lt index (last_index t.p) then append_to t.p v' from ∷ [] else [] in
-      either (Good t) (nat_lt (peer t.v.peers from).matched index && nat_le index (last_index t.p)) (does None v' sends) (does None t.v [])
+      either (Good t) (nat_lt (peer t.v.peers from).matched index && nat_le index (last_index t.p)) (leads_and (does None v' sends)) (does None t.v [])
       (λ h.
       let high = leb-true index (last_index t.p) (and_parts (nat_lt (peer t.v.peers from).matched index) (nat_le index (last_index t.p)) h).1 in
       let was = t.sound.peers leader from in
@@ -132,10 +135,11 @@ module _ (t : Turn) (leader : t.v.role ≡ Leader) where
       let b = was.matched in
       let placed : IsPlaced (last_index t.p) (length t.p.snapshot) x = record { first = omega arith; next = omega (arith, a, b); matched = b; offset = was.offset } in
       let l = same_match from x refl placed in
-      led t v' (if nat_lt next (peer t.v.peers from).next then append_to t.p v' from ∷ [] else []) leader l
+      let sends : List Sent = if nat_lt next (peer t.v.peers from).next then append_to t.p v' from ∷ [] else [] in
+      stays_leader v' sends refl (led t v' sends leader l
       (either (All (Truth t true t.p v')) (nat_lt next (peer t.v.peers from).next) (append_to t.p v' from ∷ []) []
       (λ y. one (Truth t true t.p v') (append_to t.p v' from) (sends_one t t.p v' from (l.placed from)))
-      (λ y. All-nil (Truth t true t.p v')))
+      (λ y. All-nil (Truth t true t.p v'))))
 
   more_good : (from index received : ℕ) → Good t (sends_more t.p t.v from index received)
   more_good from index received =
@@ -150,8 +154,8 @@ module _ (t : Turn) (leader : t.v.role ≡ Leader) where
       let low = leb-true (peer t.v.peers from).next t.p.base b.1 in
       let first = was.first in
       let placed : IsPlaced (last_index t.p) (length t.p.snapshot) x = record { first = first; next = was.next; matched = was.matched; offset = fits } in
-      led t v' (reply from (chunk_from t.p received)) leader (same_match from x refl placed)
-      (one (Truth t true t.p v') (send from (chunk_from t.p received)) (record { sender_is = refl; term_is = refl; leading = refl; index_is = refl; index_term_is = refl; members_is = refl }, own_chunk t.p received (omega (arith, low, first)) fits)))
+      stays_leader v' (reply from (chunk_from t.p received)) refl (led t v' (reply from (chunk_from t.p received)) leader (same_match from x refl placed)
+      (one (Truth t true t.p v') (send from (chunk_from t.p received)) (record { sender_is = refl; term_is = refl; leading = refl; index_is = refl; index_term_is = refl; members_is = refl }, own_chunk t.p received (omega (arith, low, first)) fits))))
       (λ h. silent t)
 
 -- a reply is adopted, or is not for this member, or goes on

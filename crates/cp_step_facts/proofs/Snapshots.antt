@@ -65,8 +65,7 @@ module _ (t : Turn) (from term index offset : ℕ) (is_last : Bool) (bytes : Lis
             (λ k. inl (has_known t.p t.v index head.term k, refl))
             (λ k. inr ((λ z. true≢false (sym (known_has t.p t.v index head.term z) ∙ k)), refl));
       } in
-      subst (λ (z : PersistentState). Left t z v' (reply from (SnapshotReply term index true 0))) (ap (λ o. with_snapshot now index all o t.p) (sym is)) (record {
-        leads = false;
+      subst (λ (z : PersistentState). Left t false z v' (reply from (SnapshotReply term index true 0))) (ap (λ o. with_snapshot now index all o t.p) (sym is)) (record {
         facts = record {
           named = t.sound.named;
           delivered = t.delivered;

@@ -76,8 +76,7 @@ abbrev pub Receives : VolatileState → Option Wire → VolatileState → Type 0
 Receives v came after = (after.received ≡ v.received) ⊎ ((after.received ≡ None) ⊎ GoesOn v came after.received)
 
 -- All that is shown of a step that leaves these and sends this.
-pub record Left (t : Turn) (p : PersistentState) (v : VolatileState) (sends : List Sent) : Type 0 where
-  pub leads : Bool
+pub record Left (t : Turn) (leads : Bool) (p : PersistentState) (v : VolatileState) (sends : List Sent) : Type 0 where
   pub facts : TrackedFacts (here t) (core t leads p v)
   pub says : All (Truth t leads p v) sends
   pub sound : IsSound t.me p v
@@ -85,4 +84,4 @@ pub record Left (t : Turn) (p : PersistentState) (v : VolatileState) (sends : Li
   pub receives : Receives t.v t.came v
 
 abbrev pub Good : Turn → LocalStep → Type 0
-Good t s = Left t (after_part s.part t.p) s.state s.sends
+Good t s = Left t s.leads (after_part s.part t.p) s.state s.sends
