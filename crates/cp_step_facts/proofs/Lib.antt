@@ -11,3 +11,6 @@ pub mod Replies
 pub mod Snapshots
 pub mod Changes
 pub mod Ticks
+pub mod Looks
+pub mod Moved
+pub mod Steps
