@@ -49,7 +49,6 @@ pub record LocalStep : Type 0 where
   pub answered : List Look
   pub lost : List Look
 
-
 -- ---- roles
 
 abbrev pub is_leader : Role → Bool

@@ -216,4 +216,4 @@ module _ (t : Turn) (change : Change) (plan : ℕ) (call : Option Invocation) (l
 pub change_good : (t : Turn) (change : Change) (plan : ℕ) (call : Option Invocation) → ((c : Invocation) → call ≡ Some c → length c.client.0 ≡ 16) → Good t (on_change t.me t.p t.v change plan call)
 change_good t change plan call named =
     or_refused t (refuses_entry t.p t.v) (unless_refused (refuses_change t.p t.v change) t.v (changes t.me t.p t.v change plan call)) (λ free.
-    or_refused t (refuses_change t.p t.v change) (changes t.me t.p t.v change plan call) (λ allowed_ . changes_good t change plan call (leads_if t free) allowed_ named))
+    or_refused t (refuses_change t.p t.v change) (changes t.me t.p t.v change plan call) (λ allowed_. changes_good t change plan call (leads_if t free) allowed_ named))

@@ -14,3 +14,5 @@ pub mod Ticks
 pub mod Looks
 pub mod Moved
 pub mod Steps
+pub mod Laws
+pub mod Executions

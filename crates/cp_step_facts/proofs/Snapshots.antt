@@ -38,13 +38,20 @@ module _ (t : Turn) (from term index offset : ℕ) (is_last : Bool) (bytes : Lis
       let now = adopted term (ballot t.p) in
       let reached : now.term ≡ term = adopted_term term t.p low in
       takes_ballot t term (following from t.v) (reply from (SnapshotReply term index true 0)) refl (inl refl) (inl refl)
-      (λ leads. one (Truth t leads (with_ballot t.p now.term now.vote) (following from t.v)) (send from (SnapshotReply term index true 0)) ((refl, sym reached, record {
-        sender = from;
-        index_term = t.index_term;
-        members = t.members;
-        got = whole_got ∙ ap (λ u. Some (cluster.Snapshot from u index t.index_term t.members)) (sym reached);
-        done = inr le;
-      }), tt))
+      (λ leads. one (Truth t leads (with_ballot t.p now.term now.vote) (following from t.v)) (send from (SnapshotReply term index true 0)) (
+        (
+          refl,
+          sym reached,
+          record {
+            sender = from;
+            index_term = t.index_term;
+            members = t.members;
+            got = whole_got ∙ ap (λ u. Some (cluster.Snapshot from u index t.index_term t.members)) (sym reached);
+            done = inr le;
+          },
+        ),
+        tt,
+      ))
 
   -- the whole snapshot
   installed : (all : List ℕ) (head : SnapshotHead) → head_of all ≡ Some head → (t.index_term ≡ head.term) × (t.members ≡ head.configuration.members) → t.v.commit < index → Good t (installs t.p t.v from term index all)

@@ -67,18 +67,21 @@ vote_good t from term candidate is =
     (λ z. sym (eqb-true now.vote from z) ∙ ad.vote e)
     (or_cases (now.vote == 0) (now.vote == from) b.0))
     s.commit (inl s.received) s.role
-    (λ leads. let p' = with_ballot t.p now.term from in one (Truth t leads p' granted_state) (send from (VoteReply term true)) (record {
-      voter_is = refl;
-      term_is = sym reached;
-      vote = refl;
-      last_term = candidate.term;
-      last_index = candidate.index;
-      asked = t.delivered (cluster.Vote from term candidate.term candidate.index) is;
-      own_term = (log_end p').term;
-      own_index = (log_end p').index;
-      own = ends p' granted_state;
-      up_to_date = up_to_date candidate (log_end p') b.1;
-    }, tt)))
+    (λ leads. let p' = with_ballot t.p now.term from in one (Truth t leads p' granted_state) (send from (VoteReply term true)) (
+      record {
+        voter_is = refl;
+        term_is = sym reached;
+        vote = refl;
+        last_term = candidate.term;
+        last_index = candidate.index;
+        asked = t.delivered (cluster.Vote from term candidate.term candidate.index) is;
+        own_term = (log_end p').term;
+        own_index = (log_end p').index;
+        own = ends p' granted_state;
+        up_to_date = up_to_date candidate (log_end p') b.1;
+      },
+      tt,
+    )))
     (λ refused.
     let s = stepped t term (steps_down_for term t.p t.v).leader (steps_down_for term t.p t.v).heard in
     takes_ballot t term (steps_down_for term t.p t.v) (reply from (VoteReply now.term false)) s.commit (inl s.received) s.role

@@ -13,7 +13,7 @@ use Rattle.cp_step_facts.specs.Soundness.{IsSound, IsFair}
 abbrev pub StepsMeetFacts : Type 0
 StepsMeetFacts = (w : ChunkedCluster) (me : ℕ) (p : PersistentState) (v : VolatileState) (event : Option Event) (cut : Bool) → w.member me ≡ chunked_member p v → IsSound me p v
     → ((e : Event) → event ≡ Some e → IsFair p v e) → ((x : Wire) → came_by me event ≡ Some x → Contains w.sent x)
-    → (leads : Bool) × ChunkedFacts reader w (chunked_step me leads cut p v event)
+    → ChunkedFacts reader w (chunked_step me cut p v event)
 
 -- A step leaves a sound member sound, and so does a crash.
 pub record StaysSound : Type 0 where

@@ -79,14 +79,14 @@ abbrev pub came_by : ℕ → Option Event → Option Wire
 came_by me None = None
 came_by me (Some event) = came_with me event
 
--- The member takes a local step, in which it leads its term or not, and which a crash cuts off or not.
-abbrev pub chunked_step : ℕ → Bool → Bool → PersistentState → VolatileState → Option Event → ChunkedStep
-chunked_step me leads cut p v event =
+-- The member takes a local step, which a crash cuts off or not.
+abbrev pub chunked_step : ℕ → Bool → PersistentState → VolatileState → Option Event → ChunkedStep
+chunked_step me cut p v event =
     let s = step_of me p v event in
     record {
       actor = me;
       got = came_by me event;
-      leads = leads;
+      leads = s.leads;
       after = chunked_member (after_part s.part p) s.state;
       sends = map (sent_wire me) s.sends;
       cut = cut;
