@@ -9,7 +9,9 @@ use Rattle.cp_step.specs.Local.{Snapshot, SnapshotReply, does, reply}
 use Rattle.cp_step.specs.Worked.{second_gets, receiving, follows_one, ChunksStayApart}
 
 first_chunk : (bytes : List ℕ) → length bytes ≡ 32768 → second_gets (started 0 0) (Snapshot 1 5 0 false bytes) ≡ does None (receiving 5 bytes) (reply 1 (SnapshotReply 1 5 false 32768))
-first_chunk bytes e = rw e refl
+first_chunk bytes e =
+    let fits : nat_lt most_snapshot (length bytes) ≡ false = rw e refl in
+    rw (fits, e) refl
 
 last_chunk : (bytes rest : List ℕ) (head : SnapshotHead) → length bytes ≡ 32768 → length rest ≤ 1000 → head_of (bytes ++ rest) ≡ Some head
     → second_gets (receiving 5 bytes) (Snapshot 1 5 32768 true rest)

@@ -9,6 +9,7 @@ ghost use Rattle.cp_step.specs.declared.outcome.Outcome.TheVariants.{Refused};
 ghost use Rattle.cp_step.specs.Spelling.{ChangesAreSpelled, SnapshotsReadBack};
 ghost use Rattle.cp_step.specs.Volatile.{started};
 ghost use Rattle.cp_step.specs.Local.{does, reply, Got, Append, AppendReply, ChangeMembers, Confirmed};
+ghost use Rattle.cp_step.specs.Snapshots.{CompletesWhereInstalled};
 ghost use Rattle.cp_step.specs.Steps.{step};
 ghost use Rattle.cp_step.specs.Worked.{elected, election, committed, proposal, another_elected, other_election, empty, entry, call, mail};
 ghost use Rattle.cp_step.specs.Worked.{second, follows_one, ChunksStayApart, three, add, remove, refusal, removed, removal, just_elected, outcome_of, added, addition};
@@ -94,6 +95,11 @@ pub fn reads_are_lost()
     ensures refused { drop 22 has_lost.sent ≡ mail 3 1 (Confirmed 2 false 0) ∷ [] }
     ensures lost { (has_lost.seats 1).last.lost ≡ look ∷ [] }
     ensures answered { (has_lost.seats 1).last.answered ≡ [] }
+{}
+
+/// Exactly a chunk that completes a snapshot installs it, and installs what it completes.
+pub fn completes_where_installed()
+    ensures { CompletesWhereInstalled }
 {}
 
 /// A members entry has the members that it was made with, and no others.

@@ -14,7 +14,7 @@ use Rattle.cp_step.specs.Volatile.{VolatileState}
 use Rattle.cp_step.specs.Local.{SnapshotReply, LocalStep, does, reply, send}
 use Rattle.cp_step.specs.Terms.{adopted}
 use Rattle.cp_step.specs.Appends.{following}
-use Rattle.cp_step.specs.Snapshots.{received_of, length_received, joined, answers, receives, installs, takes_chunk, on_snapshot}
+use Rattle.cp_step.specs.Snapshots.{received_of, joined, Progress, Apart, TooLong, More, Whole, progress_of, progress, answers, receives, installs, takes_chunk, on_snapshot}
 use Rattle.cp_step_facts.specs.Seen.{tracked_member, head_term, head_members}
 use Rattle.cp_step_facts.proofs.Basics.{either, from_not, follower_or_leader, follower_or_candidate, one}
 use Rattle.cp_step_facts.proofs.Knowing.{has_known, known_has}
@@ -103,30 +103,40 @@ module _ (t : Turn) (from term index offset : ℕ) (is_last : Bool) (bytes : Lis
         receives = inr (inl refl);
       })
 
-  chunk_taken : (o : Option (List ℕ)) → joined (received_of term index t.v.received) offset bytes ≡ o → t.v.commit < index → Good t (takes_chunk t.p t.v from term index is_last o)
-  chunk_taken None joins above = more (following from t.v) (length_received (received_of term index t.v.received)) refl refl (inl refl)
-  chunk_taken (Some all) joins above =
+  -- what a chunk's progress says of what is joined
+  abbrev Says : Option (List ℕ) → Progress → Type 0
+  Says o (Apart received) = Unit {0}
+  Says o TooLong = Unit {0}
+  Says o (More all) = o ≡ Some all
+  Says o (Whole all) = (o ≡ Some all) × (is_last ≡ true)
+
+  progress_says : (before o : Option (List ℕ)) → Says o (progress_of is_last before o)
+  progress_says before None = tt
+  progress_says before (Some all) = either (Says (Some all)) (nat_lt most_snapshot (length all)) TooLong (if is_last then Whole all else More all)
+      (λ h. tt)
+      (λ h. either (Says (Some all)) is_last (Whole all) (More all) (λ l. (refl, l)) (λ l. refl))
+
+  chunk_taken : (r : Progress) → Says (joined (received_of term index t.v.received) offset bytes) r → t.v.commit < index → Good t (takes_chunk t.p t.v from term index r)
+  chunk_taken (Apart received) says above = more (following from t.v) received refl refl (inl refl)
+  chunk_taken TooLong says above = silent t
+  chunk_taken (More all) says above =
       let kept : VolatileState = record (following from t.v) { received = Some (record { term = term; index = index; bytes = all }) } in
-      either (Good t) (nat_lt most_snapshot (length all)) (does None t.v []) (if not is_last then receives t.p t.v from term index all else if is_none (head_of all) then does None t.v [] else installs t.p t.v from term index all)
-      (λ z. silent t)
-      (λ z. either (Good t) (not is_last) (receives t.p t.v from term index all) (if is_none (head_of all) then does None t.v [] else installs t.p t.v from term index all)
-      (λ n. more kept (length all) refl refl (inr (inr (record { sender = from; term = term; index = index; offset = offset; is_last = is_last; bytes = bytes; all = all; got = came_is; joins = joins; received = refl }))))
-      (λ n. either (Good t) (is_none (head_of all)) (does None t.v []) (installs t.p t.v from term index all)
-      (λ k. silent t)
-      (λ k. look all (head_of all) refl k joins above (from_not is_last n))))
+      more kept (length all) refl refl (inr (inr (record { sender = from; term = term; index = index; offset = offset; is_last = is_last; bytes = bytes; all = all; got = came_is; joins = says; received = refl })))
+  chunk_taken (Whole all) says above = either (Good t) (is_none (head_of all)) (does None t.v []) (installs t.p t.v from term index all) (λ k. silent t) (λ k. look (head_of all) refl k)
     where
-      look : (all : List ℕ) (o : Option SnapshotHead) → head_of all ≡ o → is_none o ≡ false → joined (received_of term index t.v.received) offset bytes ≡ Some all → t.v.commit < index → is_last ≡ true → Good t (installs t.p t.v from term index all)
-      look all None e k joins above last = absurd (true≢false k)
-      look all (Some head) e k joins above last =
-          let w = t.whole from term index offset bytes all (came_is ∙ ap (λ l. Some (Chunk from term index offset l bytes)) last) joins in
+      look : (o : Option SnapshotHead) → head_of all ≡ o → is_none o ≡ false → Good t (installs t.p t.v from term index all)
+      look None e k = absurd (true≢false k)
+      look (Some head) e k =
+          let w = t.whole from term index offset bytes all (came_is ∙ ap (λ l. Some (Chunk from term index offset l bytes)) says.1) says.0 in
           installed all head e (w.0 ∙ ap head_term e, w.1 ∙ ap head_members e) above
 
 pub snapshot_good : (t : Turn) (from term index offset : ℕ) (is_last : Bool) (bytes : List ℕ) → t.came ≡ Some (Chunk from term index offset is_last bytes) → Good t (on_snapshot t.p t.v from term index offset is_last bytes)
 snapshot_good t from term index offset is_last bytes came_is =
     let committed = answers t.p (following from t.v) from term index true 0 in
-    let chunk = takes_chunk t.p t.v from term index is_last (joined (received_of term index t.v.received) offset bytes) in
+    let before = received_of term index t.v.received in
+    let chunk = takes_chunk t.p t.v from term index (progress before offset is_last bytes) in
     either (Good t) (nat_lt term t.p.term) (does None t.v (reply from (SnapshotReply t.p.term index false 0))) (if nat_le index t.v.commit then committed else chunk)
     (λ h. plain t (send from (SnapshotReply t.p.term index false 0)) (λ leads. (tt, tt)))
     (λ h. let low = ltb-false term t.p.term h in either (Good t) (nat_le index t.v.commit) committed chunk
     (λ k. done t from term index offset is_last bytes came_is low (leb-true index t.v.commit k))
-    (λ k. chunk_taken t from term index offset is_last bytes came_is low (joined (received_of term index t.v.received) offset bytes) refl (leb-false index t.v.commit k)))
+    (λ k. chunk_taken t from term index offset is_last bytes came_is low (progress before offset is_last bytes) (progress_says t from term index offset is_last bytes came_is low before (joined before offset bytes)) (leb-false index t.v.commit k)))
