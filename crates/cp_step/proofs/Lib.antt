@@ -1,0 +1,4 @@
+pub mod Chunks
+pub mod SpellingLaws
+pub mod Completes
+pub mod Searching

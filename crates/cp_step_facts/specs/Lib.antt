@@ -1,0 +1,4 @@
+pub mod Seen
+pub mod Soundness
+pub mod Laws
+pub mod Executions
