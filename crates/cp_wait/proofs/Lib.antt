@@ -1,0 +1,6 @@
+pub mod Differing
+pub mod Shelves
+pub mod Arriving
+pub mod Hits
+pub mod KindOrder
+pub mod Standing

@@ -1,0 +1,13 @@
+//! Calls that wait, in order of arrival.
+#![tactic(auto)]
+
+mod calls;
+mod index;
+mod indexes;
+mod rows;
+mod shelf;
+#[cfg(test)]
+mod tests;
+mod waits;
+
+pub use waits::{RowsError, WaitError, Waits};
