@@ -1,0 +1,10 @@
+//! The maps of a group: the table of their pairs.
+#![tactic(auto)]
+
+mod key;
+mod maps;
+#[cfg(test)]
+mod tests;
+
+pub use key::Key;
+pub use maps::Maps;
