@@ -1,0 +1,5 @@
+pub mod Lists
+pub mod Acts
+pub mod Rules
+pub mod After
+pub mod Caused

@@ -1,0 +1,15 @@
+pub mod Rounds
+pub mod GroupLaws
+pub mod Lists
+pub mod Ledgers
+pub mod Good
+pub mod Does
+pub mod Clients
+pub mod Answers
+pub mod Settled
+pub mod Prompt
+pub mod Clocks
+pub mod Printed
+pub mod Runs
+pub mod Kept
+pub mod Examples

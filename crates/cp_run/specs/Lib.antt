@@ -1,0 +1,7 @@
+pub mod Rows
+pub mod World
+pub mod Execution
+pub mod Promises
+pub mod Returns
+pub mod Headline
+pub mod Laws
