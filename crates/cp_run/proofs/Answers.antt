@@ -384,10 +384,10 @@ module _ (plan : Plan) (w : World) (me : ClientNo) (moved : Moved) (there : Cont
   each-fine [] asked c own m = record { client = subst (λ xs. Midway plan w me c xs []) (sym (no-more asked)) m; ended = refl; returns = refl }
   each-fine (row ∷ rows) asked c own m = let x = due-fine asked row.0 row.1 c (All-head (λ (e : ℕ × OwnSession). OpenedIn w.history e.1.id (replay_id me)) row rows own) m in
       let y = each-fine rows (asked ++ (beat_if_due (replay_id me) row.0 row.1 c).asked) (beat_if_due (replay_id me) row.0 row.1 c).client (All-tail (λ (e : ℕ × OwnSession). OpenedIn w.history e.1.id (replay_id me)) row rows own) x.client in record {
-    client = subst (λ xs. Midway plan w me (beat_each (replay_id me) (row ∷ rows) c).client xs []) (append_assoc asked (beat_if_due (replay_id me) row.0 row.1 c).asked (beat_each (replay_id me) rows (beat_if_due (replay_id me) row.0 row.1 c).client).asked) y.client;
-    ended = rw (x.ended, y.ended);
-    returns = rw (x.returns, y.returns);
-  }
+        client = subst (λ xs. Midway plan w me (beat_each (replay_id me) (row ∷ rows) c).client xs []) (append_assoc asked (beat_if_due (replay_id me) row.0 row.1 c).asked (beat_each (replay_id me) rows (beat_if_due (replay_id me) row.0 row.1 c).client).asked) y.client;
+        ended = rw (x.ended, y.ended);
+        returns = rw (x.returns, y.returns);
+      }
 
   tick-midway : (ms : ℕ) → Good plan w → Midway plan w me (record (client_at w me) { clock = (client_at w me).clock + ms }) [] []
   tick-midway ms good = let m = midway-now plan w me [] good in record { client = record { own = m.client.own; held = m.client.held; pending = m.client.pending }; rises = m.rises; fresh = m.fresh; distinct = m.distinct; legal = m.legal; sources = m.sources }

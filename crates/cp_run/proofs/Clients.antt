@@ -323,8 +323,15 @@ module _ (plan : Plan) (w : World) (me : ClientNo) (ended : List (Invocation × 
   need-fine SessionToClose is = closing-fine (session_in_group c call.group) is
   need-fine (Round name) is = let down = round-need call.op name (ap asks_round is) in
       ask-midway plan w me [] ended call.thread (pending_of call purpose.ForRound) (op.Latch name latch.Round) c m
-      (record { of_task = begun; for_purpose = (down.0, down.2, subst (λ n. Knows (with_step w ([] ++ (record { group = call.group; call = next_request (replay_id me) call.thread c; op = op.Latch name latch.Round }) ∷ []) ended) (next_request (replay_id me) call.thread c) (op.Latch n latch.Round)) (sym down.1)
-      (known-now plan w me [] ended call.thread (pending_of call purpose.ForRound) (op.Latch name latch.Round) c m)) })
+      (record {
+        of_task = begun;
+        for_purpose = (
+          down.0,
+          down.2,
+          subst (λ n. Knows (with_step w ([] ++ (record { group = call.group; call = next_request (replay_id me) call.thread c; op = op.Latch name latch.Round }) ∷ []) ended) (next_request (replay_id me) call.thread c) (op.Latch n latch.Round)) (sym down.1)
+              (known-now plan w me [] ended call.thread (pending_of call purpose.ForRound) (op.Latch name latch.Round) c m),
+        );
+      })
       (λ s used. absurd (none-some used), tt) (sourced (pending_of call purpose.ForRound) (op.Latch name latch.Round) (inr (inr (name, is, refl))))
 
   pub go_on-fine : Fine (go_on plan (replay_id me) call c)

@@ -278,9 +278,12 @@ module _ (plan : Plan) (w : World) (a : Asked) (good : Good plan w) (ready : IsR
 
   in-history : (c : Committed) → Contains w.history c ⊎ (here ≡ c) → (r : Request) × Contains w.requests r × (c.entry ≡ entry.Call r.call r.op) × (r.event ≤ c.event)
   in-history c (inl h) = good.entered c h
-  in-history c (inr e) = (ready.request, ready.begun,
-      ap (λ (x : Committed). x.entry) (sym e) ∙ (ap (λ (c : Invocation). entry.Call c a.op) (sym ready.mine) ∙ ap (λ (p : Op). entry.Call ready.request.call p) (sym ready.op_is)),
-      subst (λ (x : Committed). ready.request.event ≤ x.event) e ready.by_now)
+  in-history c (inr e) = (
+    ready.request,
+    ready.begun,
+    ap (λ (x : Committed). x.entry) (sym e) ∙ (ap (λ (c : Invocation). entry.Call c a.op) (sym ready.mine) ∙ ap (λ (p : Op). entry.Call ready.request.call p) (sym ready.op_is)),
+    subst (λ (x : Committed). ready.request.event ≤ x.event) e ready.by_now,
+  )
 
   pub ledger-here : Extends (ledger_of w) (ledger_of (commit a w))
   ledger-here = record { history = λ s client h. opened-on w.history (here ∷ []) s client h; requests = λ r h. h; ends = λ e h. h; calls = λ c h. h; moves = λ c h. h; now = le_refl w.shown.number }

@@ -142,8 +142,10 @@ module _ (plan : Plan) where
   Passes w v = Steps w v × ((x : ClientNo) → clock_of v x ≡ clock_of w x)
 
   one-passes : (a : Invocation × Answer) (w : World) → Passes w (hand_on plan a w)
-  one-passes a w = (does-steps (client_of a.0) (answer_client plan (replay_id (client_of a.0)) a.0 a.1 (client_at w (client_of a.0))) w,
-      λ x. does-clocks (client_of a.0) (answer_client plan (replay_id (client_of a.0)) a.0 a.1 (client_at w (client_of a.0))) w 0 (answer-clock plan (replay_id (client_of a.0)) a.0 (client_at w (client_of a.0)) a.1 ∙ plus (clock_of w (client_of a.0))) x ∙ drop (clock_of w x) (x.0 == (client_of a.0).0))
+  one-passes a w = (
+    does-steps (client_of a.0) (answer_client plan (replay_id (client_of a.0)) a.0 a.1 (client_at w (client_of a.0))) w,
+    λ x. does-clocks (client_of a.0) (answer_client plan (replay_id (client_of a.0)) a.0 a.1 (client_at w (client_of a.0))) w 0 (answer-clock plan (replay_id (client_of a.0)) a.0 (client_at w (client_of a.0)) a.1 ∙ plus (clock_of w (client_of a.0))) x ∙ drop (clock_of w x) (x.0 == (client_of a.0).0),
+  )
     where
       plus : (n : ℕ) → n ≡ n + 0
       plus n = omega arith
@@ -193,16 +195,16 @@ call-starts plan me t o w = let e = event.Call me t o in
     let v = record (start (event.Call me t o) w) { calls = w.calls ++ record { event = length w.effects + 1; client = me; thread = t; op = o; clock = clock_of w me } ∷ [] } in
     let d = call_client plan (replay_id me) t o (client_at w me) in
     let s = does-steps me (call_client plan (replay_id me) t o (client_at w me)) (record (start (event.Call me t o) w) { calls = w.calls ++ record { event = length w.effects + 1; client = me; thread = t; op = o; clock = clock_of w me } ∷ [] }) in record {
-  effects = s.effects;
-  number = s.number;
-  event_is = s.event_is;
-  calls = λ c h. at c s.ignored_is (Contains-push_cases w.calls (record { event = length w.effects + 1; client = me; thread = t; op = o; clock = clock_of w me }) c (subst (λ rows. Contains rows c) s.calls h));
-  moves = λ m h. inl (subst (λ rows. Contains rows m) s.moves h);
-  clocks = λ x. clocks x s.ignored_is;
-  returns = s.returns;
-  noted = s.noted (λ client r h. absurd (no-element (client, r) h));
-  committed = s.committed;
-}
+      effects = s.effects;
+      number = s.number;
+      event_is = s.event_is;
+      calls = λ c h. at c s.ignored_is (Contains-push_cases w.calls (record { event = length w.effects + 1; client = me; thread = t; op = o; clock = clock_of w me }) c (subst (λ rows. Contains rows c) s.calls h));
+      moves = λ m h. inl (subst (λ rows. Contains rows m) s.moves h);
+      clocks = λ x. clocks x s.ignored_is;
+      returns = s.returns;
+      noted = s.noted (λ client r h. absurd (no-element (client, r) h));
+      committed = s.committed;
+    }
   where
     after : World
     after = calls_now plan me t o (start (event.Call me t o) w)

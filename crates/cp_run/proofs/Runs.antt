@@ -119,17 +119,47 @@ module _ (plan : Plan) where
   called-good : (c : Called) (w : World) → Good plan w → Good plan (record w { calls = w.calls ++ c ∷ [] })
   called-good c w good = let v = record w { calls = w.calls ++ c ∷ [] } in
       let more : Extends (ledger_of w) (ledger_of (record w { calls = w.calls ++ c ∷ [] })) = record { history = λ s client h. h; requests = λ r h. h; ends = λ x h. h; calls = λ x h. Contains-append_left w.calls (c ∷ []) x h; moves = λ x h. h; now = le_refl w.shown.number } in
-      record { state = good.state; ordered = good.ordered; orderly = good.orderly; own = good.own; upto = good.upto; rounds = good.rounds; waiters = good.waiters; queue = λ a h. let g = good.queue a h in record { answered = g.answered; fits = g.fits }; ends = good.ends; ended_by_now = good.ended_by_now; clients_are = good.clients_are; numbers = good.numbers; distinct = good.distinct; entered = good.entered;
+      record {
+        state = good.state;
+        ordered = good.ordered;
+        orderly = good.orderly;
+        own = good.own;
+        upto = good.upto;
+        rounds = good.rounds;
+        waiters = good.waiters;
+        queue = λ a h. let g = good.queue a h in record { answered = g.answered; fits = g.fits };
+        ends = good.ends;
+        ended_by_now = good.ended_by_now;
+        clients_are = good.clients_are;
+        numbers = good.numbers;
+        distinct = good.distinct;
+        entered = good.entered;
         sources = λ r h. source-on (ledger_of w) (ledger_of (record w { calls = w.calls ++ c ∷ [] })) more plan r (good.sources r h);
         returns = λ r h. told-on (ledger_of w) (ledger_of (record w { calls = w.calls ++ c ∷ [] })) more r.event r.client r.what (good.returns r h);
-        clients = λ me. client-on (ledger_of w) (ledger_of (record w { calls = w.calls ++ c ∷ [] })) more plan me (client_at w me) (good.clients me) }
+        clients = λ me. client-on (ledger_of w) (ledger_of (record w { calls = w.calls ++ c ∷ [] })) more plan me (client_at w me) (good.clients me);
+      }
 
   moved-good : (m : Moved) (w : World) → Good plan w → Good plan (record w { moves = w.moves ++ m ∷ [] })
   moved-good m w good = let more : Extends (ledger_of w) (ledger_of (record w { moves = w.moves ++ m ∷ [] })) = record { history = λ s client h. h; requests = λ r h. h; ends = λ x h. h; calls = λ x h. h; moves = λ x h. Contains-append_left w.moves (m ∷ []) x h; now = le_refl w.shown.number } in
-      record { state = good.state; ordered = good.ordered; orderly = good.orderly; own = good.own; upto = good.upto; rounds = good.rounds; waiters = good.waiters; queue = λ a h. let g = good.queue a h in record { answered = g.answered; fits = g.fits }; ends = good.ends; ended_by_now = good.ended_by_now; clients_are = good.clients_are; numbers = good.numbers; distinct = good.distinct; entered = good.entered;
+      record {
+        state = good.state;
+        ordered = good.ordered;
+        orderly = good.orderly;
+        own = good.own;
+        upto = good.upto;
+        rounds = good.rounds;
+        waiters = good.waiters;
+        queue = λ a h. let g = good.queue a h in record { answered = g.answered; fits = g.fits };
+        ends = good.ends;
+        ended_by_now = good.ended_by_now;
+        clients_are = good.clients_are;
+        numbers = good.numbers;
+        distinct = good.distinct;
+        entered = good.entered;
         sources = λ r h. source-on (ledger_of w) (ledger_of (record w { moves = w.moves ++ m ∷ [] })) more plan r (good.sources r h);
         returns = λ r h. told-on (ledger_of w) (ledger_of (record w { moves = w.moves ++ m ∷ [] })) more r.event r.client r.what (good.returns r h);
-        clients = λ me. client-on (ledger_of w) (ledger_of (record w { moves = w.moves ++ m ∷ [] })) more plan me (client_at w me) (good.clients me) }
+        clients = λ me. client-on (ledger_of w) (ledger_of (record w { moves = w.moves ++ m ∷ [] })) more plan me (client_at w me) (good.clients me);
+      }
 
   call-good : (me : ClientNo) (t : ThreadNo) (o : UserOp) (now : Option Pending) (w : World) → Good plan w → Good plan (calls_if_idle plan me t o now w)
   call-good me t o (Some now) w good = ignored-good _ w good

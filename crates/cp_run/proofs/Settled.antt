@@ -370,9 +370,10 @@ module _ (plan : Plan) (w : World) (quiet : Quiet w) where
     rests-open : (o : Option Pending) → (thread_at (client_at w (client_of a.0)) a.0.thread).pending ≡ o → Rests (on_pending plan (replay_id (client_of a.0)) a.0 o a.1 (client_at w (client_of a.0)))
     rests-open None is = rests-nothing
     rests-open (Some now) is = let h = (quiet (client_of a.0)).0 a.0.thread now is in
-        let l = task-leads plan (replay_id (client_of a.0)) a.0 (client_at w (client_of a.0)) (quiet (client_of a.0)).1 now.task now a.1 (ready-itself now.task now.purpose now.group h) in
-        (quiet-after (client_of a.0) a.0.thread (on_pending plan (replay_id (client_of a.0)) a.0 (Some now) a.1 (client_at w (client_of a.0))) l.0 l.2,
-        silent (client_of a.0) (on_pending plan (replay_id (client_of a.0)) a.0 (Some now) a.1 (client_at w (client_of a.0))) w (itself-quiet plan (replay_id (client_of a.0)) a.0 (client_at w (client_of a.0)) (quiet (client_of a.0)).1 now.task now a.1 h))
+        let l = task-leads plan (replay_id (client_of a.0)) a.0 (client_at w (client_of a.0)) (quiet (client_of a.0)).1 now.task now a.1 (ready-itself now.task now.purpose now.group h) in (
+          quiet-after (client_of a.0) a.0.thread (on_pending plan (replay_id (client_of a.0)) a.0 (Some now) a.1 (client_at w (client_of a.0))) l.0 l.2,
+          silent (client_of a.0) (on_pending plan (replay_id (client_of a.0)) a.0 (Some now) a.1 (client_at w (client_of a.0))) w (itself-quiet plan (replay_id (client_of a.0)) a.0 (client_at w (client_of a.0)) (quiet (client_of a.0)).1 now.task now a.1 h),
+        )
 
     pub rest-one : Rests (answer_client plan (replay_id (client_of a.0)) a.0 a.1 (client_at w (client_of a.0)))
     rest-one = either Rests ((thread_at (client_at w (client_of a.0)) a.0.thread).number == a.0.number) _ _ (rests-open (thread_at (client_at w (client_of a.0)) a.0.thread).pending refl) rests-nothing
@@ -480,9 +481,11 @@ each-quiet (t ∷ ts) c q = let x = late-quiet t c q in let y = each-quiet ts (e
 
 module _ (me : ClientId) where
   beat-quiet : (own : OwnSession) (c : Client) → QuietClient c → QuietClient (beat_if_due me 1 own c).client × (length (beat_if_due me 1 own c).asked ≤ 1)
-  beat-quiet own c q = either (λ (d : Did). QuietClient d.client × (length d.asked ≤ 1)) (is_due own c) _ _
-      (settles-quiet c (beat me 1 own c).client own_thread q (row-settles c (beat me 1 own c).client own_thread (record { number = (thread_at c own_thread).number + 1; pending = Some beats_now }) refl (one-pending ((thread_at c own_thread).number + 1) beats_now refl))
-      (one-put c.sessions (record { id = own.id; beat = c.clock }) q.1), le_refl 1)
+  beat-quiet own c q = either (λ (d : Did). QuietClient d.client × (length d.asked ≤ 1)) (is_due own c) _ _ (
+    settles-quiet c (beat me 1 own c).client own_thread q (row-settles c (beat me 1 own c).client own_thread (record { number = (thread_at c own_thread).number + 1; pending = Some beats_now }) refl (one-pending ((thread_at c own_thread).number + 1) beats_now refl))
+        (one-put c.sessions (record { id = own.id; beat = c.clock }) q.1),
+    le_refl 1,
+  )
       (q, omega arith)
     where
       beats_now : Pending
