@@ -1,0 +1,24 @@
+-- Sound states stay sound, and what they answer has a spelling.
+use Rattle.std.specs.Prelude.{ℕ, ◌^◌, ◌≤◌, length}
+use Rattle.std.specs.List.{AllByRecursion}
+use Rattle.cp_ops.specs.declared.entry.Entry.{Entry}
+use Rattle.cp_ops.specs.Entries.{entry_grammar}
+use Rattle.cp_group_state.specs.GroupState.{GroupState, empty}
+use Rattle.cp_group_state.specs.Apply.{Applied, apply, run}
+use Rattle.cp_group_state.specs.History.{History}
+use Rattle.cp_state_ranges.specs.Rows.{AnswerFits}
+use Rattle.cp_state_ranges.specs.States.{IsSound}
+
+-- an entry leaves a sound state, and its answers have spellings
+pub record IsSoundStep (x : Applied) : Type 0 where
+  pub state : IsSound x.state
+  pub answers : AllByRecursion AnswerFits x.answers
+
+abbrev pub FirstStateIsSound : Type 0
+FirstStateIsSound = IsSound empty
+
+abbrev pub EntriesKeepStatesSound : Type 0
+EntriesKeepStatesSound = (index : ℕ) (entry : Entry) (s : GroupState) → index ≤ 2 ^ 62 → entry_grammar.Fits entry → IsSound s → IsSoundStep (apply index entry s)
+
+abbrev pub HistoriesAreSound : Type 0
+HistoriesAreSound = (history : History) → length history ≤ 2 ^ 62 → AllByRecursion entry_grammar.Fits history → AllByRecursion IsSoundStep (run 1 history empty)
