@@ -36,6 +36,10 @@ module _ {X : Type 0} (P : X → Type 0) where
   each-map f [] h = tt
   each-map f (y ∷ ys) h = (h.0, each-map f ys h.1)
 
+pub each-both : {X : Type 0} (P Q : X → Type 0) (xs : List X) → AllByRecursion P xs → AllByRecursion Q xs → AllByRecursion (λ (x : X). P x × Q x) xs
+each-both P Q [] h k = tt
+each-both P Q (x ∷ xs) h k = ((h.0, k.0), each-both P Q xs h.1 k.1)
+
 pub shorter-filter : {X : Type 0} (test : X → Bool) (xs : List X) → length (filter test xs) ≤ length xs
 shorter-filter test [] = omega arith
 shorter-filter {X} test (x ∷ xs) = either (λ (ys : List X). length ys ≤ length (x ∷ xs)) (test x) (x ∷ filter test xs) (filter test xs)
@@ -119,6 +123,12 @@ module _ {K X : Type 0} (cmp : K → K → Ordering) (key : IsKey cmp) (total : 
           → is_some (cond c (Some (f e)) (find cmp (map (λ e. (e.0, f e)) es) q)) ≡ true
       by true h rest = refl
       by false h rest = rest h
+
+  -- each row is found under its key
+  pub each-found : (rows : List (K × X)) → AllByRecursion (λ (e : K × X). is_some (find cmp rows e.0) ≡ true) rows
+  each-found [] = tt
+  each-found (e ∷ es) = (rw (key.here e.0), each-weaker (λ (f : K × X). is_some (find cmp es f.0) ≡ true) (λ (f : K × X). is_some (find cmp (e ∷ es) f.0) ≡ true)
+      (λ f h. either (λ (o : Option X). is_some o ≡ true) (is_at (cmp f.0) e.0) (Some e.1) (find cmp es f.0) refl h) es (each-found es))
 
 -- ---- rows that keep all three
 

@@ -1,0 +1,4 @@
+use Rattle.cp_state_ranges.proofs.first_state_is_sound.Goals as goal
+
+pub returns : goal.returns
+returns c = ?h

@@ -1,0 +1,4 @@
+use Rattle.cp_state_ranges.proofs.histories_are_sound.Goals as goal
+
+pub returns : goal.returns
+returns c = ?h
