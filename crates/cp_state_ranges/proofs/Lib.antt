@@ -5,3 +5,4 @@ pub mod Atoms
 pub mod LockSteps
 pub mod LatchSteps
 pub mod Permits
+pub mod Returned

@@ -1,5 +1,5 @@
 -- Locks keep their ranges.
-use Rattle.std.proofs.Common.{◌≡◌, ℕ, ◌+◌, ◌-◌, ◌^◌, ◌<◌, ◌≤◌, Bool, true, false, not, ◌&&◌, List, [], ◌∷◌, map, Some, None, Option, refl, sym, arith, is_some}
+use Rattle.std.proofs.Common.{◌≡◌, ℕ, ◌+◌, ◌-◌, ◌^◌, ◌<◌, ◌≤◌, Bool, true, false, not, ◌&&◌, List, [], ◌∷◌, map, Some, None, Option, refl, ap, sym, arith, is_some}
 use Rattle.std.specs.Prelude.{◌==◌, nat_lt}
 use Rattle.std.specs.List.{filter, AllByRecursion}
 use Rattle.std.proofs.lemmas.Bool.Decides.{nat_tests}
@@ -10,7 +10,8 @@ use Rattle.cp_answers.specs.Answers.{answer_grammar}
 use Rattle.cp_group_state.specs.declared.rows.Holder.{Holder}
 use Rattle.cp_group_state.specs.declared.rows.LockRow.{LockRow}
 use Rattle.cp_group_state.specs.Rows.{Named, find, put, has_room, most, name_cmp}
-use Rattle.cp_group_state.specs.Locks.{Acquired, Release, Taken, Fence, Limit, Full, Busy, free_lock, held_once, or_free, lock_at, is_free, is_held_by, is_held_among, most_holds, acquired, released_by, held_among, freed, freed_all}
+use Rattle.cp_group_state.specs.Locks as locks
+use Rattle.cp_group_state.specs.Locks.{Acquired, Release, Taken, Fence, Limit, Full, Busy, free_lock, held_once, or_free, lock_at, is_free, is_held_by, is_held_among, most_holds, acquired, Freed, NotOwner, released_by, held_among, freed, freed_all}
 use Rattle.cp_group_state.specs.LockRules.{owner_answer}
 use Rattle.cp_group_state.proofs.Keyed.{name_key, no_true, find-put_same}
 use Rattle.cp_group_state.proofs.Walk.{cases, either}
@@ -75,15 +76,29 @@ kept-acquired i rows n who limit g f s t l h = let row = lock_at rows n in
     again : (row : LockRow) → LockFits (n, row) → row.holds + 1 ≤ most_holds limit → LockFits (n, record row { holds = row.holds + 1 })
     again row p few = record { name = p.name; session = p.session; thread = p.thread; fence = p.fence; holds = (let most = limit-most limit l in omega (arith, few, most)); held_or_free = λ e. absurd (more-not-none row.holds e) }
 
-pub kept-released : (rows : Named LockRow) (n : List ℕ) (who : Holder) → spelled.name.Fits n → LocksKept rows → LocksKept (released_by rows n who).rows
+-- ---- locks that are handed over are there
+
+abbrev pub Handed : Named LockRow → List ℕ → Type 0
+Handed rows n = spelled.name.Fits n × (is_some (find name_cmp rows n) ≡ true)
+
+abbrev ReleaseFits : List ℕ → Release → Type 0
+ReleaseFits n r = LocksKept r.rows × (r.released ≡ Freed → Handed r.rows n)
+
+pub kept-released : (rows : Named LockRow) (n : List ℕ) (who : Holder) → spelled.name.Fits n → LocksKept rows → ReleaseFits n (released_by rows n who)
 kept-released rows n who f h = let row = lock_at rows n in
-    cases (λ (r : Release). LocksKept r.rows) (is_held_by who row) _ _
+    cases (ReleaseFits n) (is_held_by who row) _ _
     (λ e. let held : is_free row ≡ false = held-lock (is_free row) _ e in
-        cases (λ (r : Release). LocksKept r.rows) (row.holds == 1) _ _
-        (λ one. put-there rows n free_lock held (free-fits n f) h)
-        (λ one. put-there rows n (record row { holds = row.holds - 1 }) held (fewer row (lock-found rows n f h) held one) h))
-    (λ e. h)
+        cases (ReleaseFits n) (row.holds == 1) _ _
+        (λ one. (put-there rows n free_lock held (free-fits n f) h, λ is. (f, ap is_some (find-put_same name_cmp name_key rows n free_lock))))
+        (λ one. (put-there rows n (record row { holds = row.holds - 1 }) held (fewer row (lock-found rows n f h) held one) h, λ is. absurd (not-kept is))))
+    (λ e. (h, λ is. absurd (not-owned is)))
   where
+    not-kept : locks.Kept ≡ Freed → ⊥
+    not-kept e = cc
+
+    not-owned : NotOwner ≡ Freed → ⊥
+    not-owned e = cc
+
     fewer : (row : LockRow) → LockFits (n, row) → is_free row ≡ false → (row.holds == 1) ≡ false → LockFits (n, record row { holds = row.holds - 1 })
     fewer row p held one = record { name = p.name; session = p.session; thread = p.thread; fence = p.fence; holds = (let most = p.holds in omega (arith, most)); held_or_free = λ e. absurd (positive row.holds held one e) }
 
@@ -97,11 +112,6 @@ owner-fits rows n f h = at (lock_at rows n) (lock-found rows n f h)
     at : (row : LockRow) → LockFits (n, row) → answer_grammar.Fits (owner_answer row)
     at row p = either answer_grammar.Fits (is_free row) _ _ fits_free (fits_held row.holder.session row.holder.thread row.holds row.fence p.session p.thread p.holds p.fence)
 
--- ---- locks that are handed over are there
-
-abbrev pub Handed : Named LockRow → List ℕ → Type 0
-Handed rows n = spelled.name.Fits n × (is_some (find name_cmp rows n) ≡ true)
-
 pub kept-handed : (i : ℕ) (rows : Named LockRow) (n : List ℕ) (who : Holder) → index.Fits i → Handed rows n → index.Fits who.session → thread_no.Fits who.thread → LocksKept rows → LocksKept (put name_cmp rows n (held_once who i))
 kept-handed i rows n who g there s t h = kept-there name_cmp name_key nat_list_cmp_total LockFits rows n (held_once who i) there.1 (held-fits i n who g there.0 s t) h
 
@@ -113,9 +123,3 @@ handed-among sessions rows h = each-map (Handed (freed_all sessions rows)) (λ (
     (each-weaker LockFits (λ (e : List ℕ × LockRow). spelled.name.Fits e.0) (λ e p. p.name) rows h.all)
     (each-weaker (λ (e : List ℕ × LockRow). is_some (find name_cmp rows e.0) ≡ true) (λ (e : List ℕ × LockRow). is_some (find name_cmp (freed_all sessions rows) e.0) ≡ true)
     (λ e there. found-map name_cmp name_key nat_list_cmp_total (λ (e : List ℕ × LockRow). freed sessions e.1) rows e.0 there) rows (each-found name_cmp name_key nat_list_cmp_total rows))))
-
-pub handed-released : (rows : Named LockRow) (n : List ℕ) (who : Holder) → spelled.name.Fits n → is_held_by who (lock_at rows n) ≡ true → Handed (put name_cmp rows n free_lock) n
-handed-released rows n who f e = (f, found-same rows)
-  where
-    found-same : (rows : Named LockRow) → is_some (find name_cmp (put name_cmp rows n free_lock) n) ≡ true
-    found-same rows = rw (find-put_same name_cmp name_key rows n free_lock)
