@@ -6,3 +6,6 @@ pub mod LockSteps
 pub mod LatchSteps
 pub mod Permits
 pub mod Returned
+pub mod Calls
+pub mod Good
+pub mod Walks

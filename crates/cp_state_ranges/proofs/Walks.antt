@@ -1,0 +1,1 @@
+-- Changes that end waiters keep states good, and what ends has an answer that fits.
