@@ -62,3 +62,7 @@ with-gone s x k h = record { destroyed_group = h.destroyed_group; sessions = h.s
 
 pub with-calls : (s : GroupState) (ws : List Waiter) (m : List ((ℕ × ℕ) × MemoryRow)) → WaitersKept s.semaphores.rows ws → AllByRecursion MemoryFits m → Good s → Good (record s { waiters = ws; memory = m })
 with-calls s ws m k l h = record { destroyed_group = h.destroyed_group; sessions = h.sessions; locks = h.locks; permits = h.permits; latches = h.latches; longs = h.longs; refs = h.refs; maps = h.maps; gone = h.gone; waiters = k; memory = l }
+
+-- semaphores may go on which nobody waits
+pub with-fewer : (s : GroupState) (x : Semaphores) → PermitsKept x → WaitersKept x.rows s.waiters → Good s → Good (record s { semaphores = x })
+with-fewer s x k w h = record { destroyed_group = h.destroyed_group; sessions = h.sessions; locks = h.locks; permits = k; latches = h.latches; longs = h.longs; refs = h.refs; maps = h.maps; gone = h.gone; waiters = w; memory = h.memory }

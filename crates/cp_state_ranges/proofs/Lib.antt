@@ -9,3 +9,5 @@ pub mod Returned
 pub mod Calls
 pub mod Good
 pub mod Walks
+pub mod Rules
+pub mod Sound

@@ -8,10 +8,11 @@ use Rattle.std.specs.Cmp.{IsTotalOrder}
 use Rattle.std.specs.BTreeMap.{is_at}
 use Rattle.std.specs.List.{filter, AllByRecursion}
 use Rattle.std.specs.List.Sorted.{IsStrictlySortedBy}
+use Rattle.std.specs.Map.{keys_of}
 use Rattle.std.proofs.lemmas.Bool.Decides.{nat_tests}
 use Rattle.cp_group_state.specs.Rows.{find, put, without, has_room, most}
 use Rattle.cp_group_state.specs.Invariants.{IsRising}
-use Rattle.cp_group_state.proofs.Keyed.{IsKey, no_true, equal_is, pair_same, find-put_same, find-put_other, find-without_other}
+use Rattle.cp_group_state.proofs.Keyed.{IsKey, no_true, is_at_apart, equal_is, pair_same, find-put_same, find-put_other, find-without_other}
 use Rattle.cp_group_state.proofs.Rising.{rising-put, rising-without, rising-filter, less-none, above-all}
 use Rattle.cp_group_state.proofs.Walk.{either}
 use Rattle.cp_group_state.proofs.Grows.{same_some}
@@ -129,6 +130,23 @@ module _ {K X : Type 0} (cmp : K → K → Ordering) (key : IsKey cmp) (total : 
   each-found [] = tt
   each-found (e ∷ es) = (rw (key.here e.0), each-weaker (λ (f : K × X). is_some (find cmp es f.0) ≡ true) (λ (f : K × X). is_some (find cmp (e ∷ es) f.0) ≡ true)
       (λ f h. either (λ (o : Option X). is_some o ≡ true) (is_at (cmp f.0) e.0) (Some e.1) (find cmp es f.0) refl h) es (each-found es))
+
+  keys-each : (Q : K → Type 0) (rows : List (K × X)) → AllByRecursion Q (keys_of rows) → AllByRecursion (λ (e : K × X). Q e.0) rows
+  keys-each Q [] h = tt
+  keys-each Q (e ∷ es) h = (h.0, keys-each Q es h.1)
+
+  -- in order each row is the one that is found under its key
+  pub each-own : (rows : List (K × X)) → IsRising cmp rows → AllByRecursion (λ (e : K × X). find cmp rows e.0 ≡ Some e.1) rows
+  unfolding IsStrictlySortedBy
+  each-own [] r = tt
+  each-own (e ∷ es) r = (rw (key.here e.0), each-weaker (λ (f : K × X). (cmp e.0 f.0 ≡ Less) × (find cmp es f.0 ≡ Some f.1)) (λ (f : K × X). find cmp (e ∷ es) f.0 ≡ Some f.1)
+      (λ f p. above f p.0 p.1) es (each-both (λ (f : K × X). cmp e.0 f.0 ≡ Less) (λ (f : K × X). find cmp es f.0 ≡ Some f.1) es (keys-each (λ (k : K). cmp e.0 k ≡ Less) es r.0) (each-own es r.1)))
+    where
+      less_equal : Less ≡ Equal → ⊥
+      less_equal e = cc
+
+      above : (f : K × X) → cmp e.0 f.0 ≡ Less → find cmp es f.0 ≡ Some f.1 → find cmp (e ∷ es) f.0 ≡ Some f.1
+      above f less is = let far : is_at (cmp f.0) e.0 ≡ false = is_at_apart cmp key f.0 e.0 (λ same. less_equal (sym less ∙ ap (λ (k : K). cmp e.0 k) same ∙ key.here e.0)) in rw far is
 
 -- ---- rows that keep all three
 
