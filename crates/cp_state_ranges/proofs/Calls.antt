@@ -172,7 +172,7 @@ ended-fits answer f ws h = each-map EndedFits (answered_by answer) ws (each-weak
 pub told-fits : (ended : List Ended) → AllByRecursion EndedFits ended → AllByRecursion AnswerFits (map (λ (e : Ended). (e.waiter.call, e.answer)) ended)
 told-fits ended h = each-map AnswerFits (λ (e : Ended). (e.waiter.call, e.answer)) ended (each-weaker EndedFits (λ (e : Ended). AnswerFits (e.waiter.call, e.answer)) (λ e p. (p.waiter.call, p.answer)) ended h)
 
-holder_total : IsTotalOrder holder_cmp
+pub holder_total : IsTotalOrder holder_cmp
 holder_total = then_total (on_total (λ (k : ℕ × ℕ). k.0) nat_cmp_total) (on_total (λ (k : ℕ × ℕ). k.1) nat_cmp_total)
 
 pub memory-found : (rows : List ((ℕ × ℕ) × MemoryRow)) (session thread : ℕ) (row : MemoryRow) → AllByRecursion MemoryFits rows → find holder_cmp rows (session, thread) ≡ Some row → MemoryFits ((session, thread), row)

@@ -98,8 +98,10 @@ kept-down : (rows : Named LatchRow) (n : List ℕ) (call : Invocation) (round : 
 kept-down rows n call round f c h = let row = latch_at rows n in
     cases LatchStepFits (is_over call round row) _ _ (λ e. (h, fits_ok))
     (λ e. cases LatchStepFits (nat_lt (counted_calls rows) most_counted) _ _
-    (λ less. (record { kept = kept-there name_cmp name_key nat_list_cmp_total LatchFits rows n (counted_down call row) (found-latch call round (find name_cmp rows n) e) (down row (latch-found rows n f h)) h.kept; counted = sum_more (test_less (counted_calls rows) most_counted less) },
-        either LatchSays (row.count == 1) Opened (Done answer.Ok) tt fits_ok))
+    (λ less. (
+      record { kept = kept-there name_cmp name_key nat_list_cmp_total LatchFits rows n (counted_down call row) (found-latch call round (find name_cmp rows n) e) (down row (latch-found rows n f h)) h.kept; counted = sum_more (test_less (counted_calls rows) most_counted less) },
+      either LatchSays (row.count == 1) Opened (Done answer.Ok) tt fits_ok,
+    ))
     (λ less. (h, fits_table_full most_counted (omega arith))))
   where
     down : (row : LatchRow) → LatchFits (n, row) → LatchFits (n, counted_down call row)

@@ -11,3 +11,4 @@ pub mod Good
 pub mod Walks
 pub mod Rules
 pub mod Sound
+pub mod Owners

@@ -128,8 +128,11 @@ module _ {K X : Type 0} (cmp : K → K → Ordering) (key : IsKey cmp) (total : 
   -- each row is found under its key
   pub each-found : (rows : List (K × X)) → AllByRecursion (λ (e : K × X). is_some (find cmp rows e.0) ≡ true) rows
   each-found [] = tt
-  each-found (e ∷ es) = (rw (key.here e.0), each-weaker (λ (f : K × X). is_some (find cmp es f.0) ≡ true) (λ (f : K × X). is_some (find cmp (e ∷ es) f.0) ≡ true)
-      (λ f h. either (λ (o : Option X). is_some o ≡ true) (is_at (cmp f.0) e.0) (Some e.1) (find cmp es f.0) refl h) es (each-found es))
+  each-found (e ∷ es) = (
+    rw (key.here e.0),
+    each-weaker (λ (f : K × X). is_some (find cmp es f.0) ≡ true) (λ (f : K × X). is_some (find cmp (e ∷ es) f.0) ≡ true)
+        (λ f h. either (λ (o : Option X). is_some o ≡ true) (is_at (cmp f.0) e.0) (Some e.1) (find cmp es f.0) refl h) es (each-found es),
+  )
 
   keys-each : (Q : K → Type 0) (rows : List (K × X)) → AllByRecursion Q (keys_of rows) → AllByRecursion (λ (e : K × X). Q e.0) rows
   keys-each Q [] h = tt
@@ -139,8 +142,11 @@ module _ {K X : Type 0} (cmp : K → K → Ordering) (key : IsKey cmp) (total : 
   pub each-own : (rows : List (K × X)) → IsRising cmp rows → AllByRecursion (λ (e : K × X). find cmp rows e.0 ≡ Some e.1) rows
   unfolding IsStrictlySortedBy
   each-own [] r = tt
-  each-own (e ∷ es) r = (rw (key.here e.0), each-weaker (λ (f : K × X). (cmp e.0 f.0 ≡ Less) × (find cmp es f.0 ≡ Some f.1)) (λ (f : K × X). find cmp (e ∷ es) f.0 ≡ Some f.1)
-      (λ f p. above f p.0 p.1) es (each-both (λ (f : K × X). cmp e.0 f.0 ≡ Less) (λ (f : K × X). find cmp es f.0 ≡ Some f.1) es (keys-each (λ (k : K). cmp e.0 k ≡ Less) es r.0) (each-own es r.1)))
+  each-own (e ∷ es) r = (
+    rw (key.here e.0),
+    each-weaker (λ (f : K × X). (cmp e.0 f.0 ≡ Less) × (find cmp es f.0 ≡ Some f.1)) (λ (f : K × X). find cmp (e ∷ es) f.0 ≡ Some f.1)
+        (λ f p. above f p.0 p.1) es (each-both (λ (f : K × X). cmp e.0 f.0 ≡ Less) (λ (f : K × X). find cmp es f.0 ≡ Some f.1) es (keys-each (λ (k : K). cmp e.0 k ≡ Less) es r.0) (each-own es r.1)),
+  )
     where
       less_equal : Less ≡ Equal → ⊥
       less_equal e = cc

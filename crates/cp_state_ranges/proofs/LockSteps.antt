@@ -88,9 +88,9 @@ pub kept-released : (rows : Named LockRow) (n : List ℕ) (who : Holder) → spe
 kept-released rows n who f h = let row = lock_at rows n in
     cases (ReleaseFits n) (is_held_by who row) _ _
     (λ e. let held : is_free row ≡ false = held-lock (is_free row) _ e in
-        cases (ReleaseFits n) (row.holds == 1) _ _
-        (λ one. (put-there rows n free_lock held (free-fits n f) h, λ is. (f, ap is_some (find-put_same name_cmp name_key rows n free_lock))))
-        (λ one. (put-there rows n (record row { holds = row.holds - 1 }) held (fewer row (lock-found rows n f h) held one) h, λ is. absurd (not-kept is))))
+    cases (ReleaseFits n) (row.holds == 1) _ _
+    (λ one. (put-there rows n free_lock held (free-fits n f) h, λ is. (f, ap is_some (find-put_same name_cmp name_key rows n free_lock))))
+    (λ one. (put-there rows n (record row { holds = row.holds - 1 }) held (fewer row (lock-found rows n f h) held one) h, λ is. absurd (not-kept is))))
     (λ e. (h, λ is. absurd (not-owned is)))
   where
     not-kept : locks.Kept ≡ Freed → ⊥

@@ -157,32 +157,43 @@ module _ (key : Object) (row : SemaphoreRow) (s : Semaphores) (h : PermitsKept s
             (record { name = fits.name; kind = fits.kind; total = fits.total; available = taken-available row.available n may fits.available }) h.rows,
         set-held s.holdings session key.0 (held s.holdings session key.0 + n) f fits.name
             (taken-held row.total row.available (held s.holdings session key.0) (held_by_all key.0 s.holdings) n all_held (held-part session key.0 s.holdings) (held-most session key.0 s.holdings h.holdings) may fits.total) h.holdings,
-        grew (record row { available = row.available -ℤ pos n }))
+        grew (record row { available = row.available -ℤ pos n }),
+      )
         where
           all_held : row.total ≡ row.available +ℤ pos (held_by_all key.0 s.holdings)
           all_held = balance-of s key row h.balanced is ∙ ap (λ (b : Bool). row.available +ℤ pos (if b then held_by_all key.0 s.holdings else 0)) e
 
       of_none : is_held key.1 ≡ false → Parts s (record { rows = put object_cmp s.rows key (record { total = row.total -ℤ pos n; available = row.available -ℤ pos n }); holdings = s.holdings })
-      of_none e = (kept-there object_cmp object_key object_total RowFits s.rows key (record { total = row.total -ℤ pos n; available = row.available -ℤ pos n }) there
-          (record { name = fits.name; kind = fits.kind; total = taken-total row.total n fits.total; available = taken-available row.available n may fits.available }) h.rows, h.holdings,
-          grew (record { total = row.total -ℤ pos n; available = row.available -ℤ pos n }))
+      of_none e = (
+        kept-there object_cmp object_key object_total RowFits s.rows key (record { total = row.total -ℤ pos n; available = row.available -ℤ pos n }) there
+            (record { name = fits.name; kind = fits.kind; total = taken-total row.total n fits.total; available = taken-available row.available n may fits.available }) h.rows,
+        h.holdings,
+        grew (record { total = row.total -ℤ pos n; available = row.available -ℤ pos n }),
+      )
 
   parts-back : (session n : ℕ) → index.Fits session → Parts s (give_back key row session n s)
   parts-back session n f = (
     kept-there object_cmp object_key object_total RowFits s.rows key (record row { available = row.available +ℤ pos n }) there
         (record { name = fits.name; kind = fits.kind; total = fits.total; available = more-available row.available n fits.available }) h.rows,
     set-held s.holdings session key.0 (held s.holdings session key.0 - n) f fits.name (let few = held-most session key.0 s.holdings h.holdings in omega (arith, few)) h.holdings,
-    grew (record row { available = row.available +ℤ pos n }))
+    grew (record row { available = row.available +ℤ pos n }),
+  )
 
   parts-raise : (n : ℕ) → (row.total +ℤ pos n) ≤ℤ pos (2 ^ 31 - 1) → Parts s (change_total key row (pos n) s)
-  parts-raise n le = (kept-there object_cmp object_key object_total RowFits s.rows key (record { total = row.total +ℤ pos n; available = row.available +ℤ pos n }) there
-      (record { name = fits.name; kind = fits.kind; total = le; available = more-available row.available n fits.available }) h.rows, h.holdings,
-      grew (record { total = row.total +ℤ pos n; available = row.available +ℤ pos n }))
+  parts-raise n le = (
+    kept-there object_cmp object_key object_total RowFits s.rows key (record { total = row.total +ℤ pos n; available = row.available +ℤ pos n }) there
+        (record { name = fits.name; kind = fits.kind; total = le; available = more-available row.available n fits.available }) h.rows,
+    h.holdings,
+    grew (record { total = row.total +ℤ pos n; available = row.available +ℤ pos n }),
+  )
 
   parts-reduce : (n : ℕ) → neg_ℤ (pos (2 ^ 31)) ≤ℤ (row.available -ℤ pos n) → Parts s (change_total key row (neg_ℤ (pos n)) s)
-  parts-reduce n le = (kept-there object_cmp object_key object_total RowFits s.rows key (record { total = row.total +ℤ neg_ℤ (pos n); available = row.available +ℤ neg_ℤ (pos n) }) there
-      (record { name = fits.name; kind = fits.kind; total = less-total row.total n fits.total; available = less-available row.available n le }) h.rows, h.holdings,
-      grew (record { total = row.total +ℤ neg_ℤ (pos n); available = row.available +ℤ neg_ℤ (pos n) }))
+  parts-reduce n le = (
+    kept-there object_cmp object_key object_total RowFits s.rows key (record { total = row.total +ℤ neg_ℤ (pos n); available = row.available +ℤ neg_ℤ (pos n) }) there
+        (record { name = fits.name; kind = fits.kind; total = less-total row.total n fits.total; available = less-available row.available n le }) h.rows,
+    h.holdings,
+    grew (record { total = row.total +ℤ neg_ℤ (pos n); available = row.available +ℤ neg_ℤ (pos n) }),
+  )
 
 abbrev pub SemSays : SemOutcome → Type 0
 SemSays (Done a) = answer_grammar.Fits a
@@ -216,8 +227,14 @@ parts-step key o s f k p h = on (find object_cmp s.rows key) refl o p
     on : (o : Option SemaphoreRow) → find object_cmp s.rows key ≡ o → (l : SemOp) → SemParts l → StepFits s (sem_step_on key l o s)
     on None is sem.Available p = (same, fits_not_initialized)
     on None is (sem.Init n) p = cases (StepFits s) (has_room object_cmp most s.rows key) _ _
-        (λ room. ((kept-put object_cmp object_key object_total RowFits s.rows key (record { total = pos n; available = pos n }) room (record { name = f; kind = k; total = omega (arith, ints, p); available = omega (arith, ints) }) h.rows, h.holdings,
-            λ q was. found-put object_cmp object_key object_total s.rows key q (record { total = pos n; available = pos n }) was), fits_bool true))
+        (λ room. (
+          (
+            kept-put object_cmp object_key object_total RowFits s.rows key (record { total = pos n; available = pos n }) room (record { name = f; kind = k; total = omega (arith, ints, p); available = omega (arith, ints) }) h.rows,
+            h.holdings,
+            λ q was. found-put object_cmp object_key object_total s.rows key q (record { total = pos n; available = pos n }) was,
+          ),
+          fits_bool true,
+        ))
         (λ room. (same, fits_table_full most (omega arith)))
     on None is (sem.Acquire session n wish) p = (same, fits_not_initialized)
     on None is (sem.Release session n) p = (same, fits_not_initialized)
@@ -228,8 +245,10 @@ parts-step key o s f k p h = on (find object_cmp s.rows key) refl o p
     on (Some row) is (sem.Init n) p = (same, fits_bool false)
     on (Some row) is (sem.Acquire session n wish) p = cases (StepFits s) (int_lt row.available (pos n)) _ _ (λ e. (same, tt)) (λ e. (parts-take key row s h is session n p.0 (inr (not-less _ _ e)), fits_ok))
     on (Some row) is (sem.Release session n) p = either (StepFits s) (is_held key.1) _ _ (release row session n is p.0) (raise row n is)
-    on (Some row) is (sem.Drain session) p = (parts-take key row s h is session (at_least_none row.available) p (none-taken row.available),
-        fits_value (pos (at_least_none row.available)) (signed_natural (at_least_none row.available) (drained-few row.available (row-ranges s key row h is).available.most)))
+    on (Some row) is (sem.Drain session) p = (
+      parts-take key row s h is session (at_least_none row.available) p (none-taken row.available),
+      fits_value (pos (at_least_none row.available)) (signed_natural (at_least_none row.available) (drained-few row.available (row-ranges s key row h is).available.most)),
+    )
     on (Some row) is (sem.Increase session n) p = raise row n is
     on (Some row) is (sem.Reduce session n) p = cases (StepFits s) (int_lt (row.available -ℤ pos n) (neg_ℤ (pos (2 ^ 31)))) _ _ (λ e. (same, fits_overflow)) (λ e. (parts-reduce key row s h is n (not-less _ _ e), fits_ok))
 

@@ -142,8 +142,8 @@ good-sem : (call : Invocation) (key : Object) (o : SemOp) (s : GroupState) → i
 good-sem call key o s c f k p h = cases (GoodOutcome call) (is_behind key o s) _ _
     (λ e. good-sem_wait call key o s c f k p (middle (is_acquire o) (is_some (find object_cmp s.semaphores.rows key)) (is_some (first_on key.1 key.0 s.waiters)) e) h)
     (λ e. let step = kept-step key o s.semaphores f k p h.permits in
-        good-on_sem call key (sem_wait call key o s) (sem_step key o s.semaphores).outcome (record s { semaphores = (sem_step key o s.semaphores).after }) step.1
-        (λ wants. good-sem_wait call key o s c f k p (wants-there key o s.semaphores wants) h) (with-permits s (sem_step key o s.semaphores).after step.0 step.2 h))
+    good-on_sem call key (sem_wait call key o s) (sem_step key o s.semaphores).outcome (record s { semaphores = (sem_step key o s.semaphores).after }) step.1
+    (λ wants. good-sem_wait call key o s c f k p (wants-there key o s.semaphores wants) h) (with-permits s (sem_step key o s.semaphores).after step.0 step.2 h))
 
 -- ---- latches
 
@@ -178,7 +178,7 @@ good-opened i call (Some e) s is g c h = good-answered call (answer.Session e.0)
     (fits_session e.0 (first-fits (filter (λ e. same_client e.1.client call.client) s.sessions) e (each-filter SessionFits (λ e. same_client e.1.client call.client) s.sessions h.sessions.kept.all) is).number) h
 good-opened i call None s is g c h = cases (GoodOutcome call) (has_room nat_cmp most s.sessions i) _ _
     (λ room. good-answered call (answer.Session i) (record s { sessions = put nat_cmp s.sessions i (record { client = call.client; version = 0 }) }) (fits_session i g)
-        (with-sessions s (put nat_cmp s.sessions i (record { client = call.client; version = 0 })) (kept-open i s.sessions call.client room g (call_client call c) is h.sessions) h))
+    (with-sessions s (put nat_cmp s.sessions i (record { client = call.client; version = 0 })) (kept-open i s.sessions call.client room g (call_client call c) is h.sessions) h))
     (λ room. good-answered call (answer.TableFull most) s (fits_table_full most (omega arith)) h)
 
 good-beat : (call : Invocation) (number : ℕ) (o : Option SessionRow) (s : GroupState) → find nat_cmp s.sessions number ≡ o → index.Fits number → Good s → GoodOutcome call (beat number o s)

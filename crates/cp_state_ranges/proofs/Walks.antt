@@ -156,7 +156,7 @@ or-right true b e = refl
 or-right false b e = e
 
 -- the waiters that pass the test end
-ended-all : (test : Waiter → Bool) (a : Waiter → Answer) (ws : List Waiter) (ended : List Ended) → ((c : Invocation) → list_any (λ e. same_call e.waiter.call c) (ending test a ws) ≡ true → list_any (λ e. same_call e.waiter.call c) ended ≡ true)
+pub ended-all : (test : Waiter → Bool) (a : Waiter → Answer) (ws : List Waiter) (ended : List Ended) → ((c : Invocation) → list_any (λ e. same_call e.waiter.call c) (ending test a ws) ≡ true → list_any (λ e. same_call e.waiter.call c) ended ≡ true)
     → AllByRecursion (λ (w : Waiter). test w ≡ true → list_any (λ e. same_call e.waiter.call w.call) ended ≡ true) ws
 ended-all test a [] ended sub = tt
 ended-all test a (w ∷ ws) ended sub = (λ t. sub w.call (here t), ended-all test a ws ended (λ c h. sub c (later c h)))
@@ -168,7 +168,7 @@ ended-all test a (w ∷ ws) ended sub = (λ t. sub w.call (here t), ended-all te
     later c h = either (λ (vs : List Waiter). list_any (λ e. same_call e.waiter.call c) (map (answered_by a) vs) ≡ true) (test w) (w ∷ filter test ws) (filter test ws) (or-right (same_call w.call c) _ h) h
 
 -- those that still wait don't
-still-fails : (test : Waiter → Bool) (ended : List Ended) (ws : List Waiter) → AllByRecursion (λ (w : Waiter). test w ≡ true → list_any (λ e. same_call e.waiter.call w.call) ended ≡ true) ws → AllByRecursion (λ (w : Waiter). test w ≡ false) (still_waiting ended ws)
+pub still-fails : (test : Waiter → Bool) (ended : List Ended) (ws : List Waiter) → AllByRecursion (λ (w : Waiter). test w ≡ true → list_any (λ e. same_call e.waiter.call w.call) ended ≡ true) ws → AllByRecursion (λ (w : Waiter). test w ≡ false) (still_waiting ended ws)
 still-fails test ended [] h = tt
 still-fails test ended (w ∷ ws) h = let rest = still-fails test ended ws h.1 in
     cases (AllByRecursion (λ (w : Waiter). test w ≡ false)) (not (list_any (λ e. same_call e.waiter.call w.call) ended)) (w ∷ still_waiting ended ws) (still_waiting ended ws) (λ k. (fails (test w) refl k h.0, rest)) (λ k. rest)
@@ -202,7 +202,7 @@ good-sem_gone n which s f room h =
     let w = first.state.waiters in
     let fails = still-fails (waits_on which n) ended s.waiters (ended-all (waits_on which n) (λ w. answer.ObjectDestroyed) s.waiters ended (λ c h. h)) in
     let stands = each-weaker (λ (w : Waiter). HasSemaphore s.semaphores.rows w × (waits_on which n w ≡ false)) (HasSemaphore (without object_cmp s.semaphores.rows (n, which))) (λ w p. other-stands which n s.semaphores.rows w p.0 p.1) waiting
-        (each-both (HasSemaphore s.semaphores.rows) (λ (w : Waiter). waits_on which n w ≡ false) waiting w.stand fails) in
+    (each-both (HasSemaphore s.semaphores.rows) (λ (w : Waiter). waits_on which n w ≡ false) waiting w.stand fails) in
     let t = finish ended s in
     let fewer : Good (record t.state { semaphores = sem_destroyed (n, which) s.semaphores }) = with-fewer t.state (sem_destroyed (n, which) s.semaphores) (kept-sem_gone (n, which) s.semaphores h.permits) (record { all = w.all; few = w.few; differ = w.differ; stand = stands }) first.state in
     record { state = good-gone n which (record t.state { semaphores = sem_destroyed (n, which) s.semaphores }) f room fewer; ended = first.ended }
