@@ -12,3 +12,4 @@ pub mod Walks
 pub mod Rules
 pub mod Sound
 pub mod Owners
+pub mod Counts

@@ -134,7 +134,7 @@ module _ {K X : Type 0} (cmp : K → K → Ordering) (key : IsKey cmp) (total : 
         (λ f h. either (λ (o : Option X). is_some o ≡ true) (is_at (cmp f.0) e.0) (Some e.1) (find cmp es f.0) refl h) es (each-found es),
   )
 
-  keys-each : (Q : K → Type 0) (rows : List (K × X)) → AllByRecursion Q (keys_of rows) → AllByRecursion (λ (e : K × X). Q e.0) rows
+  pub keys-each : (Q : K → Type 0) (rows : List (K × X)) → AllByRecursion Q (keys_of rows) → AllByRecursion (λ (e : K × X). Q e.0) rows
   keys-each Q [] h = tt
   keys-each Q (e ∷ es) h = (h.0, keys-each Q es h.1)
 

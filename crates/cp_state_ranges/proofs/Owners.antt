@@ -51,7 +51,7 @@ use Rattle.cp_group_state.specs.LatchRules.{latch_wait, on_latch, latch_rule}
 use Rattle.cp_group_state.specs.SessionRules.{opened, beat, session_rule}
 use Rattle.cp_group_state.specs.Protected.{session_of_sem, session_in}
 use Rattle.cp_group_state.specs.Apply.{Applied, supersede, is_older, time_out, destroy_group, rule, outcome, remembered, settle, settle_wait, join, perform, by_memory, by_session, is_elsewhere, apply_call, apply}
-use Rattle.cp_group_state.proofs.Keyed.{no_true, number_key, holder_key, same_kind}
+use Rattle.cp_group_state.proofs.Keyed.{no_true, number_key, holder_key, same_kind, find-filter_kept}
 use Rattle.cp_group_state.proofs.Walk.{cases, either}
 use Rattle.cp_group_state.proofs.Told.{IsOwnWait, memory_of, own-outcome}
 use Rattle.cp_group_state.proofs.Ordered.{holding_key, holding_total}
@@ -215,7 +215,7 @@ own-times calls s h = let c = for_each time_out calls s in
 -- ---- sessions that end
 
 open-kept : (sessions : List ℕ) (rows : List (ℕ × SessionRow)) (n : ℕ) → is_among sessions n ≡ false → IsOpen rows n → IsOpen (filter (λ e. not (is_among sessions e.0)) rows) n
-open-kept sessions rows n e there = ap is_some (Rattle.cp_group_state.proofs.Keyed.find-filter_kept nat_cmp number_key (λ k. not (is_among sessions k)) rows n (ap not e)) ∙ there
+open-kept sessions rows n e there = ap is_some (find-filter_kept nat_cmp number_key (λ k. not (is_among sessions k)) rows n (ap not e)) ∙ there
 
 -- what stays of the holdings
 rest-owned : (sessions : List ℕ) (rows : List (ℕ × SessionRow)) (h : Holdings) → AllByRecursion (HoldingOwned sessions rows) h → AllByRecursion (HoldingOwned [] rows) (filter (λ e. not (is_among sessions e.0.0)) h)

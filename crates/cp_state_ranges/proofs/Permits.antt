@@ -73,7 +73,7 @@ pub row-ranges : (s : Semaphores) (key : Object) (row : SemaphoreRow) → Permit
 row-ranges s key row h is = ranges (key, row) (held_of key s.holdings) (balance-of s key row h.balanced is) (each-find object_cmp object_key object_total RowFits s.rows key row h.rows.all is)
 
 -- a session's permits are among those that are held
-held-part : (session : ℕ) (name : List ℕ) (h : Holdings) → held h session name ≤ held_by_all name h
+pub held-part : (session : ℕ) (name : List ℕ) (h : Holdings) → held h session name ≤ held_by_all name h
 held-part session name [] = omega arith
 held-part session name (e ∷ es) = by (holding_cmp (session, name) e.0) refl (held-part session name es)
   where
