@@ -1,9 +1,8 @@
 -- Longs, references and maps keep their ranges, and what they answer has a spelling.
-use Rattle.std.proofs.Common.{◌≡◌, ℕ, ◌<◌, ◌-◌, ◌^◌, ◌≤◌, Bool, true, false, List, [], ◌∷◌, Some, None, Option, refl, arith}
-use Rattle.std.specs.Prelude.{ℤ, pos, unwrap_or, bytes_eq}
+use Rattle.std.proofs.Common.{ℕ, List, Some, None, Option, arith}
+use Rattle.std.specs.Prelude.{ℤ, pos, unwrap_or}
 use Rattle.std.specs.Ordering.{int_eq}
 use Rattle.std.specs.Int.{w64, int_wrapping_add}
-use Rattle.std.specs.BTreeMap.{is_at}
 use Rattle.std.proofs.lemmas.Cmp.{nat_list_cmp_total, then_total, on_total}
 use Rattle.std.specs.Cmp.{IsTotalOrder}
 use Rattle.cp_grammar.specs.Fields.{signed}
@@ -19,9 +18,9 @@ use Rattle.cp_object_ops.specs.declared.map_op.MapOp.TheVariants as map
 use Rattle.cp_answers.specs.declared.answer.Answer.{Answer}
 use Rattle.cp_answers.specs.declared.answer.Answer.TheVariants as answer
 use Rattle.cp_answers.specs.Answers.{answer_grammar}
-use Rattle.cp_group_state.specs.Rows.{Named, find, put, has_room, most, name_cmp, pair_cmp}
+use Rattle.cp_group_state.specs.Rows.{Named, find, has_room, most, name_cmp, pair_cmp}
 use Rattle.cp_group_state.specs.Atomics.{AtomicStep, set_value, long_set, long_answer, long_at, long_step, same_value, ref_set, ref_answer, ref_at, ref_step}
-use Rattle.cp_group_state.specs.Maps.{Pairs, MapStep, Effect, Stays, Sets, Goes, key_of, set_where_absent, has_value, map_effect, map_answer, with_effect, map_step_at, map_step}
+use Rattle.cp_group_state.specs.Maps.{Pairs, MapStep, Effect, Stays, Sets, Goes, key_of, set_where_absent, has_value, map_effect, map_answer, with_effect, map_step}
 use Rattle.cp_group_state.proofs.Keyed.{name_key, pair_key}
 use Rattle.cp_group_state.proofs.Walk.{cases, either}
 use Rattle.cp_state_ranges.specs.Rows.{LongFits, RefFits, PairFits}

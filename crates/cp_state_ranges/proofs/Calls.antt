@@ -1,7 +1,7 @@
 -- Sessions, waiters and memory rows keep their ranges.
-use Rattle.std.proofs.Common.{◌≡◌, ℕ, ◌+◌, ◌-◌, ◌^◌, ◌<◌, ◌≤◌, Bool, true, false, not, ◌||◌, List, [], ◌∷◌, ◌++◌, map, length, Some, None, Option, refl, ap, sym, ◌∙◌, subst, arith, cond, is_some, if◌then◌else◌, length-append}
-use Rattle.std.specs.Prelude.{◌==◌, nat_lt, min}
-use Rattle.std.specs.List.{filter, list_any, AllByRecursion}
+use Rattle.std.proofs.Common.{◌≡◌, ℕ, ◌+◌, ◌^◌, ◌<◌, ◌≤◌, Bool, true, false, not, ◌||◌, List, [], ◌∷◌, ◌++◌, map, length, Some, None, Option, refl, ap, sym, ◌∙◌, subst, arith, is_some, if◌then◌else◌, length-append}
+use Rattle.std.specs.Prelude.{◌==◌, min}
+use Rattle.std.specs.List.{filter, AllByRecursion}
 use Rattle.std.specs.Ordering.{nat_cmp}
 use Rattle.std.specs.BTreeMap.{is_at}
 use Rattle.std.specs.Cmp.{IsTotalOrder}
@@ -9,7 +9,7 @@ use Rattle.std.proofs.lemmas.Cmp.{nat_cmp_total, then_total, on_total}
 use Rattle.cp_base.specs.declared.identifier.ClientId.{ClientId}
 use Rattle.cp_base.specs.declared.identifier.ThreadNo.{ThreadNo}
 use Rattle.cp_base.specs.declared.identifier.Invocation.{Invocation}
-use Rattle.cp_spelling.specs.Common.{index, client_id, thread_no, invocation}
+use Rattle.cp_spelling.specs.Common.{index, client_id, thread_no}
 use Rattle.cp_grammar.specs.Fields.{optional}
 use Rattle.cp_answers.specs.declared.answer.Answer.{Answer}
 use Rattle.cp_answers.specs.Answers.{answer_grammar}
@@ -18,19 +18,19 @@ use Rattle.cp_group_state.specs.declared.rows.MemoryRow.{MemoryRow}
 use Rattle.cp_group_state.specs.declared.rows.SessionRow.{SessionRow}
 use Rattle.cp_group_state.specs.declared.rows.SemaphoreRow.{SemaphoreRow}
 use Rattle.cp_group_state.specs.Rows.{Object, find, put, has_room, most, object_cmp, holder_cmp}
-use Rattle.cp_group_state.specs.Waiters.{Ended, same_client, same_call, first, stands, answered_by, ending, still_waiting}
+use Rattle.cp_group_state.specs.Waiters.{Ended, same_client, same_call, first, stands, answered_by}
 use Rattle.cp_group_state.specs.Memory.{has_memory, remember, note_at, note, note_all}
 use Rattle.cp_group_state.specs.Sessions.{is_of, is_open_for, session_of, is_among, beaten}
 use Rattle.cp_group_state.specs.Invariants.{OneSession, CallsDiffer}
 use Rattle.cp_group_state.proofs.Keyed.{no_true, equal_is, find-put_same, find-put_other, number_key, holder_key, same-client}
-use Rattle.cp_group_state.proofs.Walk.{cases, either}
+use Rattle.cp_group_state.proofs.Walk.{either}
 use Rattle.cp_group_state.proofs.Grows.{is_of-same, beats-opened, forget-opened}
 use Rattle.cp_group_state.proofs.Latches.{same_call_itself}
 use Rattle.cp_group_state.proofs.Once.{same-call}
 use Rattle.cp_state_ranges.specs.Rows.{SessionFits, WaiterFits, MemoryFits, AnswerFits}
 use Rattle.cp_state_ranges.specs.States.{HasSemaphore}
 use Rattle.cp_state_ranges.proofs.Listed.{Kept, kept-put, kept-there, kept-filter, each-append, each-filter, each-map, each-weaker, each-put, each-find, shorter-filter}
-use Rattle.cp_state_ranges.proofs.Fitting.{index_fits, some_answer, call_client, call_thread, call_number, thread_byte}
+use Rattle.cp_state_ranges.proofs.Fitting.{index_fits, some_answer, call_thread, thread_byte}
 
 -- ---- sessions
 

@@ -1,11 +1,10 @@
 -- How many holdings and memory rows there are.
-use Rattle.std.proofs.Common.{◌≡◌, ℕ, suc, ◌+◌, ◌*◌, ◌-◌, ◌<◌, ◌≤◌, Bool, true, false, not, ◌||◌, List, [], ◌∷◌, length, Some, None, Option, refl, ap, sym, ◌∙◌, subst, arith, is_some, cond, if◌then◌else◌}
+use Rattle.std.proofs.Common.{◌≡◌, ℕ, suc, ◌+◌, ◌*◌, ◌<◌, ◌≤◌, Bool, true, false, not, ◌||◌, List, [], ◌∷◌, length, Some, None, Option, refl, ap, sym, ◌∙◌, subst, arith, is_some, cond, if◌then◌else◌}
 use Rattle.std.specs.Prelude.{◌==◌, ◌^◌, bytes_eq, unwrap_or}
 use Rattle.std.specs.List.{filter, list_any, AllByRecursion}
-use Rattle.std.specs.Map.{keys_of}
 use Rattle.std.specs.List.Sorted.{IsStrictlySortedBy}
 use Rattle.std.specs.declared.cmp.Ordering.{Ordering}
-use Rattle.std.specs.declared.cmp.Ordering.TheVariants.{Less, Equal, Greater}
+use Rattle.std.specs.declared.cmp.Ordering.TheVariants.{Less, Equal}
 use Rattle.std.specs.Ordering.{nat_cmp, ordering_then}
 use Rattle.std.specs.BTreeMap.{is_at}
 use Rattle.std.proofs.lemmas.Bool.Decides.{nat_tests}
@@ -17,22 +16,19 @@ use Rattle.cp_op_values.specs.declared.kind.Kind.TheVariants as kind
 use Rattle.cp_group_state.specs.declared.rows.MemoryRow.{MemoryRow}
 use Rattle.cp_group_state.specs.declared.rows.SessionRow.{SessionRow}
 use Rattle.cp_group_state.specs.declared.rows.SemaphoreRow.{SemaphoreRow}
-use Rattle.cp_group_state.specs.Rows.{Object, find, most, name_cmp, object_cmp, holding_cmp, holder_cmp}
-use Rattle.cp_group_state.specs.Semaphores.{Semaphores, held}
+use Rattle.cp_group_state.specs.Rows.{Object, find, most, object_cmp, holding_cmp, holder_cmp}
 use Rattle.cp_group_state.specs.GroupState.{GroupState, empty}
 use Rattle.cp_group_state.specs.Apply.{Applied, apply, run}
 use Rattle.cp_group_state.specs.History.{History}
-use Rattle.cp_group_state.specs.Invariants.{IsRising, IsBalanced, IsBalancedAt, HoldingsStand, held_by_all}
+use Rattle.cp_group_state.specs.Invariants.{IsRising, IsBalancedAt, HoldingsStand, held_by_all}
 use Rattle.cp_group_state.proofs.Keyed.{no_true, equal_is, pair_same, number_key, holder_key, object_key}
-use Rattle.cp_group_state.proofs.Walk.{cases, either}
+use Rattle.cp_group_state.proofs.Walk.{cases}
 use Rattle.cp_group_state.proofs.Rising.{rising-filter}
 use Rattle.cp_group_state.proofs.Ordered.{holding_key, holding_total}
-use Rattle.cp_group_state.proofs.Balance.{Holdings}
 use Rattle.cp_state_ranges.specs.Rows.{HoldingFits, MemoryFits}
 use Rattle.cp_state_ranges.specs.States.{IsSound}
-use Rattle.cp_state_ranges.specs.Laws.{IsSoundStep}
 use Rattle.cp_state_ranges.specs.Owners.{IsOpen, IsOwned, IsCounted}
-use Rattle.cp_state_ranges.proofs.Listed.{each-filter, each-weaker, each-both, each-find, each-own, keys-each}
+use Rattle.cp_state_ranges.proofs.Listed.{each-filter, each-weaker, each-both, each-find, each-own, keys-each, test_same, or-right}
 use Rattle.cp_state_ranges.proofs.Permits.{held-part}
 use Rattle.cp_state_ranges.proofs.Calls.{holder_total}
 use Rattle.cp_state_ranges.proofs.Sound.{sound-apply, sound-empty}
@@ -89,9 +85,6 @@ module _ {K X : Type 0} (of : K → X → Bool) (Ok : List X → Type 0) (part :
 
 -- ---- memory rows
 
-same_number : (a b : ℕ) → (a == b) ≡ true → a ≡ b
-same_number a b e = grind (arith, nat_tests)
-
 same_test : (a b : ℕ) → a ≡ b → (a == b) ≡ true
 same_test a b e = grind (arith, nat_tests)
 
@@ -106,10 +99,6 @@ session-found : (rows : List (ℕ × SessionRow)) (n : ℕ) → IsOpen rows n �
 session-found [] n h = h
 session-found (r ∷ rs) n h = by (is_at (nat_cmp n) r.0) refl h (session-found rs n)
   where
-    or-right : (a b : Bool) → b ≡ true → (a || b) ≡ true
-    or-right true b e = refl
-    or-right false b e = e
-
     by : (c : Bool) → is_at (nat_cmp n) r.0 ≡ c → is_some (cond c (Some r.1) (find nat_cmp rs n)) ≡ true → (IsOpen rs n → list_any (λ (r : ℕ × SessionRow). r.0 == n) rs ≡ true) → ((r.0 == n) || list_any (λ (r : ℕ × SessionRow). r.0 == n) rs) ≡ true
     by true e h rest = rw (same_test r.0 n (sym (number_key.same n r.0 (equal_is _ e))))
     by false e h rest = or-right (r.0 == n) _ (rest h)
@@ -124,7 +113,7 @@ unfolding IsStrictlySortedBy
 threads session low [] few r same most above = omega (arith, few)
 threads session low (x ∷ xs) few r same most above =
     let later = each-weaker (λ (e : (ℕ × ℕ) × MemoryRow). (holder_cmp x.0 e.0 ≡ Less) × (session ≡ e.0.0)) (λ (e : (ℕ × ℕ) × MemoryRow). suc x.0.1 ≤ e.0.1) (λ e p. thread-less x.0 e.0 p.0 (sym same.0 ∙ p.1)) xs
-        (each-both (λ (e : (ℕ × ℕ) × MemoryRow). holder_cmp x.0 e.0 ≡ Less) (λ (e : (ℕ × ℕ) × MemoryRow). session ≡ e.0.0) xs (keys-each holder_cmp holder_key holder_total (λ (k : ℕ × ℕ). holder_cmp x.0 k ≡ Less) xs r.0) same.1) in
+    (each-both (λ (e : (ℕ × ℕ) × MemoryRow). holder_cmp x.0 e.0 ≡ Less) (λ (e : (ℕ × ℕ) × MemoryRow). session ≡ e.0.0) xs (keys-each holder_cmp holder_key holder_total (λ (k : ℕ × ℕ). holder_cmp x.0 k ≡ Less) xs r.0) same.1) in
     let rest = threads session (suc x.0.1) xs (let top = most.0 in omega (arith, top)) r.1 same.1 most.1 later in
     let least = above.0 in omega (arith, rest, least)
 
@@ -132,7 +121,7 @@ abbrev MemoryOk : List ((ℕ × ℕ) × MemoryRow) → Type 0
 MemoryOk m = IsRising holder_cmp m × AllByRecursion (λ (e : (ℕ × ℕ) × MemoryRow). e.0.1 ≤ 8) m
 
 memory-few : (k : ℕ × SessionRow) (m : List ((ℕ × ℕ) × MemoryRow)) → MemoryOk m → AllByRecursion (λ (e : (ℕ × ℕ) × MemoryRow). of_memory k e ≡ true) m → length m ≤ 9
-memory-few k m ok h = let all = threads k.0 0 m (omega arith) ok.0 (each-weaker (λ (e : (ℕ × ℕ) × MemoryRow). of_memory k e ≡ true) (λ (e : (ℕ × ℕ) × MemoryRow). k.0 ≡ e.0.0) (λ e x. same_number k.0 e.0.0 x) m h) ok.1
+memory-few k m ok h = let all = threads k.0 0 m (omega arith) ok.0 (each-weaker (λ (e : (ℕ × ℕ) × MemoryRow). of_memory k e ≡ true) (λ (e : (ℕ × ℕ) × MemoryRow). k.0 ≡ e.0.0) (λ e x. test_same k.0 e.0.0 x) m h) ok.1
     (each-weaker (λ (e : (ℕ × ℕ) × MemoryRow). e.0.1 ≤ 8) (λ (e : (ℕ × ℕ) × MemoryRow). 0 ≤ e.0.1) (λ e x. omega arith) m ok.1) in omega (arith, all)
 
 memory-counted : (s : GroupState) → IsSound s → IsOwned s → length s.memory ≤ 90000
@@ -157,10 +146,6 @@ semaphore-found : (rows : List (Object × SemaphoreRow)) (name : List ℕ) → i
 semaphore-found [] name h = h
 semaphore-found (r ∷ rs) name h = by (is_at (object_cmp (name, kind.Sem)) r.0) refl h (semaphore-found rs name)
   where
-    or-right : (a b : Bool) → b ≡ true → (a || b) ≡ true
-    or-right true b e = refl
-    or-right false b e = e
-
     by : (c : Bool) → is_at (object_cmp (name, kind.Sem)) r.0 ≡ c → is_some (cond c (Some r.1) (find object_cmp rs (name, kind.Sem))) ≡ true
         → (is_some (find object_cmp rs (name, kind.Sem)) ≡ true → list_any (λ (r : Object × SemaphoreRow). bytes_eq r.0.0 name) rs ≡ true) → (bytes_eq r.0.0 name || list_any (λ (r : Object × SemaphoreRow). bytes_eq r.0.0 name) rs) ≡ true
     by true e h rest = rw ((bytes_eq-Decides r.0.0 name).1 (sym (ap (λ (k : Object). k.0) (object_key.same (name, kind.Sem) r.0 (equal_is _ e)))))
@@ -188,17 +173,17 @@ module _ (rows : List (Object × SemaphoreRow)) where
 
   session-few : (k : ℕ × SessionRow) (h : List ((ℕ × List ℕ) × ℕ)) → length rows ≤ most → HoldingsOk h → AllByRecursion (λ (e : (ℕ × List ℕ) × ℕ). of_session k e ≡ true) h → length h ≤ most
   session-few k h few ok all = let mine = all-few of_semaphore (SessionOk k.0) (λ test xs p. (rising-filter holding_cmp holding_key holding_total test xs p.0, each-filter (λ (e : (ℕ × List ℕ) × ℕ). k.0 ≡ e.0.0) test xs p.1)) 1 (one-holding k.0) rows h
-      (ok.0, each-weaker (λ (e : (ℕ × List ℕ) × ℕ). of_session k e ≡ true) (λ (e : (ℕ × List ℕ) × ℕ). k.0 ≡ e.0.0) (λ e x. same_number k.0 e.0.0 x) h all) ok.1 in omega (arith, mine, few)
+      (ok.0, each-weaker (λ (e : (ℕ × List ℕ) × ℕ). of_session k e ≡ true) (λ (e : (ℕ × List ℕ) × ℕ). k.0 ≡ e.0.0) (λ e x. test_same k.0 e.0.0 x) h all) ok.1 in omega (arith, mine, few)
 
 holdings-counted : (s : GroupState) → IsSound s → IsOwned s → length s.semaphores.holdings ≤ 100000000
 holdings-counted s h o =
     let rows = s.semaphores.rows in
     let few = h.fits.limits.semaphores in
     let named = each-weaker (λ (e : (ℕ × List ℕ) × ℕ). find holding_cmp s.semaphores.holdings e.0 ≡ Some e.1) (HasRow rows) (λ e is. semaphore-found rows e.0.1 (holdings-stand s h e.0.0 e.0.1 e.1 is).1) s.semaphores.holdings
-        (each-own holding_cmp holding_key holding_total s.semaphores.holdings h.ordered.holdings) in
+    (each-own holding_cmp holding_key holding_total s.semaphores.holdings h.ordered.holdings) in
     let all = all-few of_session (HoldingsOk rows) (λ test xs p. (rising-filter holding_cmp holding_key holding_total test xs p.0, each-filter (HasRow rows) test xs p.1)) most (λ k xs ok x. session-few rows k xs few ok x) s.sessions s.semaphores.holdings
-        (h.ordered.holdings, named)
-        (each-weaker (λ (e : (ℕ × List ℕ) × ℕ). IsOpen s.sessions e.0.0) (λ (e : (ℕ × List ℕ) × ℕ). list_any (λ (r : ℕ × SessionRow). of_session r e) s.sessions ≡ true) (λ e there. session-found s.sessions e.0.0 there) s.semaphores.holdings o.holdings) in
+    (h.ordered.holdings, named)
+    (each-weaker (λ (e : (ℕ × List ℕ) × ℕ). IsOpen s.sessions e.0.0) (λ (e : (ℕ × List ℕ) × ℕ). list_any (λ (r : ℕ × SessionRow). of_session r e) s.sessions ≡ true) (λ e there. session-found s.sessions e.0.0 there) s.semaphores.holdings o.holdings) in
     let open_few = h.fits.limits.sessions in omega (arith, all, open_few)
 
 pub counted : (s : GroupState) → IsSound s → IsOwned s → IsCounted s

@@ -1,5 +1,5 @@
 -- States all whose lists keep their ranges, and the changes of one list.
-use Rattle.std.proofs.Common.{◌≡◌, ℕ, List}
+use Rattle.std.proofs.Common.{ℕ, List}
 use Rattle.std.specs.Prelude.{ℤ, Option}
 use Rattle.std.specs.List.{AllByRecursion}
 use Rattle.cp_base.specs.declared.identifier.GroupId.{GroupId}

@@ -1,13 +1,11 @@
 -- Latches keep their ranges.
-use Rattle.std.proofs.Common.{◌≡◌, ℕ, ◌+◌, ◌-◌, ◌^◌, ◌<◌, ◌≤◌, Bool, true, false, not, ◌||◌, List, [], ◌∷◌, ◌++◌, map, sum, length, Some, None, Option, refl, sym, ◌∙◌, ap, arith, cond, is_some, length-append}
+use Rattle.std.proofs.Common.{◌≡◌, ℕ, ◌+◌, ◌^◌, ◌<◌, ◌≤◌, Bool, true, false, not, ◌||◌, List, [], ◌∷◌, map, length, Some, None, Option, refl, arith, cond, is_some, length-append}
 use Rattle.std.specs.Prelude.{◌==◌, nat_lt, min, pos}
-use Rattle.std.specs.List.{AllByRecursion}
 use Rattle.std.specs.List.Sorted.{IsStrictlySortedBy}
 use Rattle.std.specs.declared.cmp.Ordering.{Ordering}
 use Rattle.std.specs.declared.cmp.Ordering.TheVariants.{Less, Equal, Greater}
 use Rattle.std.specs.Ordering.{match_ordering, is_eq}
 use Rattle.std.specs.BTreeMap.{is_at}
-use Rattle.std.proofs.lemmas.Bool.Decides.{nat_tests}
 use Rattle.std.proofs.lemmas.Cmp.{nat_list_cmp_total}
 use Rattle.std.proofs.lemmas.List.Sums.{sum_by-cons}
 use Rattle.cp_base.specs.declared.identifier.Invocation.{Invocation}
@@ -19,7 +17,7 @@ use Rattle.cp_answers.specs.Answers.{answer_grammar}
 use Rattle.cp_answers.specs.declared.answer.Answer.TheVariants as answer
 use Rattle.cp_group_state.specs.declared.rows.LatchRow.{LatchRow}
 use Rattle.cp_group_state.specs.Rows.{Named, find, put, without, has_room, most, name_cmp}
-use Rattle.cp_group_state.specs.Latches.{LatchOutcome, LatchStep, Done, Wants, Opened, new_latch, or_new, latch_at, is_counted, counted_calls, most_counted, next_round, set_latch, counted_down, is_over, count_down, latch_step_at, latch_step}
+use Rattle.cp_group_state.specs.Latches.{LatchOutcome, LatchStep, Done, Wants, Opened, new_latch, or_new, latch_at, is_counted, counted_calls, most_counted, next_round, set_latch, counted_down, is_over, count_down, latch_step}
 use Rattle.cp_group_state.specs.Invariants.{IsRising}
 use Rattle.cp_group_state.proofs.Keyed.{name_key, no_true}
 use Rattle.cp_group_state.proofs.Rising.{less-none, above-all}

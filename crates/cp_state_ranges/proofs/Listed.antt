@@ -1,6 +1,6 @@
 -- Lists of rows that keep a property, their order and their limit.
-use Rattle.std.proofs.Common.{◌≡◌, ℕ, ◌+◌, ◌<◌, ◌≤◌, Bool, true, false, not, ◌||◌, List, [], ◌∷◌, ◌++◌, map, length, Some, None, Option, refl, ap, sym, ◌∙◌, subst, arith, cond, is_some, if◌then◌else◌}
-use Rattle.std.specs.Prelude.{nat_lt, unwrap_or}
+use Rattle.std.proofs.Common.{◌≡◌, ℕ, ◌+◌, ◌<◌, ◌≤◌, Bool, true, false, not, ◌||◌, List, [], ◌∷◌, ◌++◌, map, length, Some, None, Option, refl, ap, sym, ◌∙◌, subst, arith, cond, is_some}
+use Rattle.std.specs.Prelude.{nat_lt, ◌==◌}
 use Rattle.std.specs.declared.cmp.Ordering.{Ordering}
 use Rattle.std.specs.declared.cmp.Ordering.TheVariants.{Less, Equal, Greater}
 use Rattle.std.specs.Ordering.{match_ordering, is_eq}
@@ -12,7 +12,7 @@ use Rattle.std.specs.Map.{keys_of}
 use Rattle.std.proofs.lemmas.Bool.Decides.{nat_tests}
 use Rattle.cp_group_state.specs.Rows.{find, put, without, has_room, most}
 use Rattle.cp_group_state.specs.Invariants.{IsRising}
-use Rattle.cp_group_state.proofs.Keyed.{IsKey, no_true, is_at_apart, equal_is, pair_same, find-put_same, find-put_other, find-without_other}
+use Rattle.cp_group_state.proofs.Keyed.{IsKey, no_true, is_at_apart, equal_is, pair_same, find-put_same, find-put_other}
 use Rattle.cp_group_state.proofs.Rising.{rising-put, rising-without, rising-filter, less-none, above-all}
 use Rattle.cp_group_state.proofs.Walk.{either}
 use Rattle.cp_group_state.proofs.Grows.{same_some}
@@ -53,8 +53,21 @@ same-length f (x ∷ xs) = let rest = same-length f xs in omega (arith, rest)
 none_some : {X : Type 0} (x : X) → None ≡ Some x → ⊥
 none_some x e = cc
 
+-- ---- tests
+
 pub test_less : (a b : ℕ) → nat_lt a b ≡ true → a < b
 test_less a b h = grind (arith, nat_tests)
+
+pub test_same : (a b : ℕ) → (a == b) ≡ true → a ≡ b
+test_same a b h = grind (arith, nat_tests)
+
+pub or-right : (a b : Bool) → b ≡ true → (a || b) ≡ true
+or-right true b e = refl
+or-right false b e = e
+
+pub denied : (b : Bool) → not b ≡ true → b ≡ false
+denied true e = sym e
+denied false e = refl
 
 -- ---- rows
 

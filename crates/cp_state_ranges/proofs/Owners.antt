@@ -1,12 +1,9 @@
 -- Permits and memory rows stay with open sessions.
-use Rattle.std.proofs.Common.{◌≡◌, ℕ, ◌+◌, ◌-◌, Bool, true, false, not, ◌&&◌, ◌||◌, List, [], ◌∷◌, ◌++◌, map, Some, None, Option, refl, ap, sym, ◌∙◌, subst, arith, is_some, if◌then◌else◌}
+use Rattle.std.proofs.Common.{◌≡◌, ℕ, ◌+◌, ◌-◌, Bool, true, false, not, ◌&&◌, List, [], ◌∷◌, map, Some, None, Option, refl, ap, sym, ◌∙◌, subst, is_some, if◌then◌else◌}
 use Rattle.std.specs.Prelude.{◌==◌, nat_lt, length, ℤ, pos, neg_ℤ, int_lt, ◌+ℤ◌, ◌-ℤ◌, bytes_eq}
 use Rattle.std.specs.List.{filter, list_any, AllByRecursion}
 use Rattle.std.specs.Ordering.{nat_cmp}
-use Rattle.std.specs.BTreeMap.{is_at}
-use Rattle.std.proofs.lemmas.Bool.Decides.{nat_tests}
 use Rattle.std.proofs.lemmas.Cmp.{nat_cmp_total}
-use Rattle.cp_base.specs.declared.identifier.ThreadNo.{ThreadNo}
 use Rattle.cp_base.specs.declared.identifier.Invocation.{Invocation}
 use Rattle.cp_op_values.specs.declared.kind.Kind.{Kind}
 use Rattle.cp_op_values.specs.declared.kind.Kind.TheVariants as kind
@@ -30,9 +27,9 @@ use Rattle.cp_group_state.specs.declared.rows.Waiter.{Waiter}
 use Rattle.cp_group_state.specs.declared.rows.MemoryRow.{MemoryRow}
 use Rattle.cp_group_state.specs.declared.rows.SessionRow.{SessionRow}
 use Rattle.cp_group_state.specs.declared.rows.SemaphoreRow.{SemaphoreRow}
-use Rattle.cp_group_state.specs.Rows.{Object, find, put, without, has_room, most, object_cmp, holding_cmp, holder_cmp, kind_number}
+use Rattle.cp_group_state.specs.Rows.{Object, find, put, has_room, most, object_cmp, holding_cmp, holder_cmp, kind_number}
 use Rattle.cp_group_state.specs.Waiters.{Ended, waits_on, first, same_call, answered_by, ending, still_waiting, stands}
-use Rattle.cp_group_state.specs.Memory.{has_memory, remember, note_at, note, note_all}
+use Rattle.cp_group_state.specs.Memory.{has_memory, note_at, note, note_all}
 use Rattle.cp_group_state.specs.Sessions.{is_of, is_open_for, session_of, is_among, unchanged_since, beaten}
 use Rattle.cp_group_state.specs.Locks.{Taken, Fence, Limit, Full, Busy, Released, Freed, Kept, NotOwner, acquired, released_by, held_among}
 use Rattle.cp_group_state.specs.Semaphores.{Semaphores, SemStep, SemOutcome, is_held, held, set_held, take, at_least_none, raise_total, release_held, sem_step, sem_step_on, served, take_on, take_all, all_back, sem_destroyed}
@@ -40,23 +37,23 @@ use Rattle.cp_group_state.specs.Semaphores as semaphore
 use Rattle.cp_group_state.specs.Latches.{LatchOutcome, latch_step}
 use Rattle.cp_group_state.specs.Latches as countdown
 use Rattle.cp_group_state.specs.GroupState.{GroupState, empty}
-use Rattle.cp_group_state.specs.Changes.{Change, stay, for_each, finish, end_all}
+use Rattle.cp_group_state.specs.Changes.{Change, for_each, finish, end_all}
 use Rattle.cp_group_state.specs.Serving.{serve_from, serve, left_by, serve_left, hand_to, hand_over}
-use Rattle.cp_group_state.specs.Closing.{forget, free_locks, free_permits, concerned, end_sessions, close}
+use Rattle.cp_group_state.specs.Closing.{free_locks, free_permits, concerned, end_sessions, close}
 use Rattle.cp_group_state.specs.Destroying.{add_gone, drop_rows, destroy_rule, names_gone, object_of}
 use Rattle.cp_group_state.specs.Outcomes.{Reply, Answered, Waits, Outcome, wait}
 use Rattle.cp_group_state.specs.LockRules.{on_taken, on_released, lock_rule}
 use Rattle.cp_group_state.specs.SemaphoreRules.{on_sem, sem_wait, is_behind, sem_rule}
-use Rattle.cp_group_state.specs.LatchRules.{latch_wait, on_latch, latch_rule}
+use Rattle.cp_group_state.specs.LatchRules.{on_latch}
 use Rattle.cp_group_state.specs.SessionRules.{opened, beat, session_rule}
 use Rattle.cp_group_state.specs.Protected.{session_of_sem, session_in}
-use Rattle.cp_group_state.specs.Apply.{Applied, supersede, is_older, time_out, destroy_group, rule, outcome, remembered, settle, settle_wait, join, perform, by_memory, by_session, is_elsewhere, apply_call, apply}
+use Rattle.cp_group_state.specs.Apply.{Applied, supersede, is_older, time_out, rule, outcome, remembered, settle, join, perform, by_memory, by_session, is_elsewhere, apply_call, apply}
 use Rattle.cp_group_state.proofs.Keyed.{no_true, number_key, holder_key, same_kind, find-filter_kept}
 use Rattle.cp_group_state.proofs.Walk.{cases, either}
 use Rattle.cp_group_state.proofs.Told.{IsOwnWait, memory_of, own-outcome}
 use Rattle.cp_group_state.proofs.Ordered.{holding_key, holding_total}
 use Rattle.cp_state_ranges.specs.Owners.{IsOpen, IsOwned}
-use Rattle.cp_state_ranges.proofs.Listed.{each-append, each-filter, each-weaker, each-both, each-put, each-without, each-find, found-put}
+use Rattle.cp_state_ranges.proofs.Listed.{each-append, each-filter, each-weaker, each-both, each-put, each-without, each-find, found-put, test_same, denied}
 use Rattle.cp_state_ranges.proofs.Calls.{holder_total}
 use Rattle.cp_state_ranges.proofs.Walks.{ended-all, still-fails}
 
@@ -159,15 +156,12 @@ module _ (but : List ℕ) (rows : List (ℕ × SessionRow)) where
   held-memory kind.Latch e = e
   held-memory kind.Map e = e
 
-  same_number : (a b : ℕ) → (a == b) ≡ true → a ≡ b
-  same_number a b e = grind (arith, nat_tests)
-
   left-of : (a b : Bool) → (a && b) ≡ true → a ≡ true
   left-of true b e = refl
   left-of false b e = e
 
   waiter-open : (key : Object) (w : Waiter) → waits_on key.1 key.0 w ≡ true → WaiterOwned rows w → is_held key.1 ≡ true → IsOpen rows w.session
-  waiter-open key w waits there e = there (subst (λ (k : Kind). has_memory k ≡ true) (same_kind key.1 w.kind (same_number (kind_number key.1) (kind_number w.kind) (left-of (kind_number key.1 == kind_number w.kind) (bytes_eq key.0 w.name) waits))) (held-memory key.1 e))
+  waiter-open key w waits there e = there (subst (λ (k : Kind). has_memory k ≡ true) (same_kind key.1 w.kind (test_same (kind_number key.1) (kind_number w.kind) (left-of (kind_number key.1 == kind_number w.kind) (bytes_eq key.0 w.name) waits))) (held-memory key.1 e))
 
   own-served : (key : Object) (ws : List Waiter) (available : ℤ) (s : Semaphores) → AllByRecursion (WaiterOwned rows) ws → AllByRecursion (HoldingOwned but rows) s.holdings → AllByRecursion (HoldingOwned but rows) (take_all key (served key available ws) s).holdings
   own-served key [] available s h all = all
@@ -223,20 +217,12 @@ rest-owned sessions rows [] all = tt
 rest-owned sessions rows (e ∷ es) all = let rest = rest-owned sessions rows es all.1 in
     cases (AllByRecursion (HoldingOwned [] rows)) (not (is_among sessions e.0.0)) (e ∷ filter (λ e. not (is_among sessions e.0.0)) es) (filter (λ e. not (is_among sessions e.0.0)) es)
     (λ stays. ((λ x. all.0 (denied (is_among sessions e.0.0) stays)), rest)) (λ stays. rest)
-  where
-    denied : (b : Bool) → not b ≡ true → b ≡ false
-    denied true e = sym e
-    denied false e = refl
 
 rest-memory : (sessions : List ℕ) (rows : List (ℕ × SessionRow)) (m : Memories) → AllByRecursion (MemoryOwned rows) m → AllByRecursion (MemoryOwned (filter (λ e. not (is_among sessions e.0)) rows)) (filter (λ e. not (is_among sessions e.0.0)) m)
 rest-memory sessions rows [] all = tt
 rest-memory sessions rows (e ∷ es) all = let rest = rest-memory sessions rows es all.1 in
     cases (AllByRecursion (MemoryOwned (filter (λ e. not (is_among sessions e.0)) rows))) (not (is_among sessions e.0.0)) (e ∷ filter (λ e. not (is_among sessions e.0.0)) es) (filter (λ e. not (is_among sessions e.0.0)) es)
     (λ stays. (open-kept sessions rows e.0.0 (denied (is_among sessions e.0.0) stays) all.0, rest)) (λ stays. rest)
-  where
-    denied : (b : Bool) → not b ≡ true → b ≡ false
-    denied true e = sym e
-    denied false e = refl
 
 -- the sessions end with their waiters and their memory, and their permits are still to go back
 own-end_sessions : (sessions : List ℕ) (s : GroupState) → Of [] s → Of sessions (end_sessions sessions s).state

@@ -1,16 +1,11 @@
 -- The parts of an entry that has a spelling.
-use Rattle.std.proofs.Common.{◌≡◌, ℕ, ◌-◌, ◌^◌, ◌≤◌, List, [], ◌∷◌, Some, None, Option, refl, arith}
-use Rattle.std.specs.Prelude.{ℤ}
-use Rattle.std.specs.List.{AllByRecursion}
+use Rattle.std.proofs.Common.{ℕ, ◌-◌, ◌^◌, ◌≤◌, List, Some, None, Option, refl, arith}
 use Rattle.cp_base.specs.declared.identifier.GroupId.{GroupId}
 use Rattle.cp_base.specs.declared.identifier.Invocation.{Invocation}
 use Rattle.cp_grammar.specs.Fields.{signed}
 use Rattle.cp_spelling.specs.Common as spelled
 use Rattle.cp_spelling.specs.Common.{index, group_id, invocation}
-use Rattle.cp_op_values.specs.declared.kind.Kind.{Kind}
-use Rattle.cp_op_values.specs.declared.wish.Wish.{Wish}
 use Rattle.cp_op_values.specs.declared.wish.Wish.TheVariants as wish
-use Rattle.cp_op_values.specs.Numbers.{any_u32}
 use Rattle.cp_op_values.specs.Values as values
 use Rattle.cp_op_values.specs.Values.{reference}
 use Rattle.cp_op_values.specs.Wishes.{wish_grammar}
@@ -38,7 +33,6 @@ use Rattle.cp_ops.specs.SessionOps.{session_op}
 use Rattle.cp_ops.specs.declared.op.Op.{Op}
 use Rattle.cp_ops.specs.declared.op.Op.TheVariants as op
 use Rattle.cp_ops.specs.Ops.{op_within, op_grammar}
-use Rattle.cp_ops.specs.declared.entry.Entry.{Entry}
 use Rattle.cp_ops.specs.declared.entry.Entry.TheVariants as entry
 use Rattle.cp_ops.specs.Entries.{entry_within, entry_grammar}
 use Rattle.cp_ops.specs.EntryValues.{optional_invocation}

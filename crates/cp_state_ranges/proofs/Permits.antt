@@ -1,38 +1,30 @@
 -- Semaphores keep their ranges: totals and available permits by the balance of each semaphore.
-use Rattle.std.proofs.Common.{◌≡◌, ℕ, ◌+◌, ◌-◌, ◌^◌, ◌<◌, ◌≤◌, ◌⊎◌, inl, inr, Bool, true, false, not, ◌&&◌, List, [], ◌∷◌, map, sum, Some, None, Option, refl, ap, sym, ◌∙◌, subst, arith, cond, is_some, if◌then◌else◌}
+use Rattle.std.proofs.Common.{◌≡◌, ℕ, ◌+◌, ◌-◌, ◌^◌, ◌<◌, ◌≤◌, ◌⊎◌, inl, inr, Bool, true, false, List, [], ◌∷◌, Some, None, Option, refl, ap, sym, ◌∙◌, subst, arith, cond, is_some, if◌then◌else◌}
 use Rattle.std.specs.Prelude.{◌==◌, nat_lt, nat_le, ℤ, pos, negsuc, neg_ℤ, int_lt, ◌+ℤ◌, ◌-ℤ◌, ◌≤ℤ◌, unwrap_or, bytes_eq}
-use Rattle.std.specs.List.{filter, AllByRecursion}
-use Rattle.std.specs.List.Sorted.{IsStrictlySortedBy}
+use Rattle.std.specs.List.{AllByRecursion}
 use Rattle.std.specs.declared.cmp.Ordering.{Ordering}
 use Rattle.std.specs.declared.cmp.Ordering.TheVariants.{Less, Equal, Greater}
-use Rattle.std.specs.Ordering.{match_ordering, is_eq}
-use Rattle.std.specs.BTreeMap.{is_at}
+use Rattle.std.specs.Ordering.{is_eq}
 use Rattle.std.proofs.lemmas.Bool.Decides.{nat_tests}
 use Rattle.std.proofs.lemmas.Int.{ints}
 use Rattle.std.proofs.lemmas.Slice.Eq.{bytes_eq-Decides}
-use Rattle.std.proofs.lemmas.List.Sums.{sum_by-cons}
 use Rattle.cp_spelling.specs.Common as spelled
 use Rattle.cp_spelling.specs.Common.{index}
-use Rattle.cp_op_values.specs.declared.kind.Kind.{Kind}
-use Rattle.cp_op_values.specs.declared.kind.Kind.TheVariants as kind
 use Rattle.cp_object_ops.specs.declared.sem_op.SemOp.{SemOp}
 use Rattle.cp_object_ops.specs.declared.sem_op.SemOp.TheVariants as sem
 use Rattle.cp_answers.specs.declared.answer.Answer.{Answer}
-use Rattle.cp_answers.specs.declared.answer.Answer.TheVariants as answer
-use Rattle.cp_answers.specs.declared.argument.Argument.TheVariants as argument
 use Rattle.cp_answers.specs.Answers.{answer_grammar}
 use Rattle.cp_group_state.specs.declared.rows.SemaphoreRow.{SemaphoreRow}
 use Rattle.cp_group_state.specs.declared.rows.Waiter.{Waiter}
-use Rattle.cp_group_state.specs.Rows.{Object, find, put, without, has_room, most, object_cmp, holding_cmp}
+use Rattle.cp_group_state.specs.Rows.{Object, find, put, has_room, most, object_cmp, holding_cmp}
 use Rattle.cp_group_state.specs.Waiters.{waits_on}
-use Rattle.cp_group_state.specs.Sessions.{is_among}
-use Rattle.cp_group_state.specs.Semaphores.{Semaphores, SemStep, SemOutcome, Done, Wants, Served, is_held, held, set_held, take, give_back, change_total, at_least_none, raise_total, release_held, init, sem_step, sem_step_on, served, take_on, take_all, held_together, with_back, all_back, sem_destroyed}
-use Rattle.cp_group_state.specs.Invariants.{IsRising, IsBalanced, IsBalancedAt, HoldingsStand, held_by_all, held_of}
-use Rattle.cp_group_state.proofs.Keyed.{no_true, equal_is, find-put_same, object_key}
+use Rattle.cp_group_state.specs.Semaphores.{Semaphores, SemStep, SemOutcome, Done, Wants, Served, is_held, held, set_held, take, give_back, change_total, at_least_none, raise_total, release_held, sem_step, sem_step_on, served, take_on, take_all}
+use Rattle.cp_group_state.specs.Invariants.{IsRising, IsBalanced, IsBalancedAt, held_by_all, held_of}
+use Rattle.cp_group_state.proofs.Keyed.{find-put_same, object_key}
 use Rattle.cp_group_state.proofs.Walk.{cases, either}
 use Rattle.cp_group_state.proofs.Ordered.{SemsRise, object_total, holding_total, holding_key, take_all-rises, step-rises}
 use Rattle.cp_group_state.proofs.Balance.{Holdings, step-balanced, take_all-balanced}
-use Rattle.cp_state_ranges.specs.Rows.{SemaphoreFits, HoldingFits, IsPermits, WaiterFits, is_semaphore}
+use Rattle.cp_state_ranges.specs.Rows.{SemaphoreFits, HoldingFits, WaiterFits, is_semaphore}
 use Rattle.cp_state_ranges.proofs.Listed.{Kept, kept-put, kept-there, each-put, each-without, each-find, found-put}
 use Rattle.cp_state_ranges.proofs.Fitting.{signed_permits, signed_natural, fits_ok, fits_bool, fits_value, fits_not_held, fits_not_initialized, fits_table_full, fits_overflow}
 use Rattle.cp_state_ranges.proofs.Parts.{SemParts}
@@ -128,7 +120,7 @@ taken-held : (total available : ℤ) (one all n : ℕ) → total ≡ available +
 taken-held total available one all n b part few (inl e) le = omega (arith, few, e)
 taken-held total available one all n b part few (inr e) le = omega (arith, ints, b, part, e, le)
 
-more-available : (a : ℤ) (n : ℕ) → neg_ℤ (pos (2 ^ 31)) ≤ℤ a → neg_ℤ (pos (2 ^ 31)) ≤ℤ (a +ℤ pos n)
+pub more-available : (a : ℤ) (n : ℕ) → neg_ℤ (pos (2 ^ 31)) ≤ℤ a → neg_ℤ (pos (2 ^ 31)) ≤ℤ (a +ℤ pos n)
 more-available a n le = omega (arith, ints, le)
 
 less-total : (a : ℤ) (n : ℕ) → a ≤ℤ pos (2 ^ 31 - 1) → (a +ℤ neg_ℤ (pos n)) ≤ℤ pos (2 ^ 31 - 1)

@@ -1,7 +1,7 @@
 -- Semaphores stay balanced where sessions end and where one of them is destroyed.
-use Rattle.std.proofs.Common.{◌≡◌, ℕ, ◌+◌, ◌-◌, ◌^◌, ◌<◌, ◌≤◌, Bool, true, false, not, ◌&&◌, List, [], ◌∷◌, map, sum, Some, None, Option, refl, ap, sym, ◌∙◌, subst, arith, cond, is_some, if◌then◌else◌}
-use Rattle.std.specs.Prelude.{ℤ, pos, neg_ℤ, ◌+ℤ◌, ◌≤ℤ◌, bytes_eq}
-use Rattle.std.specs.List.{filter, AllByRecursion}
+use Rattle.std.proofs.Common.{◌≡◌, ℕ, ◌+◌, Bool, true, false, not, ◌&&◌, List, [], ◌∷◌, map, sum, Some, None, Option, refl, sym, ◌∙◌, subst, arith, cond, if◌then◌else◌}
+use Rattle.std.specs.Prelude.{ℤ, pos, ◌+ℤ◌, bytes_eq}
+use Rattle.std.specs.List.{filter}
 use Rattle.std.specs.BTreeMap.{is_at}
 use Rattle.std.proofs.lemmas.Int.{ints}
 use Rattle.std.proofs.lemmas.Slice.Eq.{bytes_eq-Decides}
@@ -20,7 +20,7 @@ use Rattle.cp_group_state.proofs.Ordered.{object_total, holding_total, holding_k
 use Rattle.cp_group_state.proofs.Balance.{Holdings}
 use Rattle.cp_state_ranges.specs.Rows.{HoldingFits}
 use Rattle.cp_state_ranges.proofs.Listed.{kept-without, kept-map, each-filter, found-map}
-use Rattle.cp_state_ranges.proofs.Permits.{RowFits, PermitsKept, Grew}
+use Rattle.cp_state_ranges.proofs.Permits.{RowFits, PermitsKept, Grew, more-available}
 
 -- ---- what sessions held goes back
 
@@ -75,9 +75,6 @@ balanced-back sessions s b q = changed-row (back sessions s.holdings) s.rows q (
             → (if c then with_back (held_together sessions q.0 s.holdings) row else row).total ≡ (if c then with_back (held_together sessions q.0 s.holdings) row else row).available +ℤ pos (if c then held_by_all q.0 (rest_of sessions s.holdings) else 0)
         by true e = e ∙ back-sum row.available (held_together sessions q.0 s.holdings) (held_by_all q.0 (rest_of sessions s.holdings)) (held_by_all q.0 s.holdings) (split sessions q.0 s.holdings)
         by false e = e
-
-more-available : (a : ℤ) (n : ℕ) → neg_ℤ (pos (2 ^ 31)) ≤ℤ a → neg_ℤ (pos (2 ^ 31)) ≤ℤ (a +ℤ pos n)
-more-available a n le = omega (arith, ints, le)
 
 pub kept-back : (sessions : List ℕ) (s : Semaphores) → PermitsKept s → PermitsKept (all_back sessions s)
 kept-back sessions s h = record {

@@ -1,5 +1,5 @@
 -- What a call does keeps states good, and its answer fits.
-use Rattle.std.proofs.Common.{◌≡◌, ℕ, ◌-◌, ◌^◌, ◌≤◌, Bool, true, false, ◌&&◌, List, [], ◌∷◌, Some, None, Option, refl, sym, subst, arith, is_some}
+use Rattle.std.proofs.Common.{◌≡◌, ℕ, Bool, true, false, ◌&&◌, List, [], ◌∷◌, Some, None, Option, refl, sym, subst, arith, is_some}
 use Rattle.std.specs.Prelude.{◌==◌}
 use Rattle.std.specs.List.{filter, AllByRecursion}
 use Rattle.std.specs.Ordering.{nat_cmp}
@@ -10,7 +10,6 @@ use Rattle.cp_op_values.specs.declared.kind.Kind.{Kind}
 use Rattle.cp_op_values.specs.declared.kind.Kind.TheVariants as kind
 use Rattle.cp_op_values.specs.declared.wish.Wish.{Wish}
 use Rattle.cp_op_values.specs.declared.wish.Wish.TheVariants as wish
-use Rattle.cp_op_values.specs.Wishes.{wish_grammar}
 use Rattle.cp_object_ops.specs.declared.lock_op.LockOp.{LockOp}
 use Rattle.cp_object_ops.specs.declared.lock_op.LockOp.TheVariants as lock
 use Rattle.cp_object_ops.specs.declared.sem_op.SemOp.{SemOp}
@@ -39,13 +38,13 @@ use Rattle.cp_group_state.specs.Maps.{map_step}
 use Rattle.cp_group_state.specs.GroupState.{GroupState}
 use Rattle.cp_group_state.specs.Changes.{Change}
 use Rattle.cp_group_state.specs.Outcomes.{Reply, Answered, Waits, Outcome, answered, answered_with, wait}
-use Rattle.cp_group_state.specs.LockRules.{owner_answer, on_taken, on_released, lock_rule}
+use Rattle.cp_group_state.specs.LockRules.{on_taken, on_released, lock_rule}
 use Rattle.cp_group_state.specs.SemaphoreRules.{on_sem, sem_wait, is_acquire, is_behind, sem_rule}
 use Rattle.cp_group_state.specs.LatchRules.{latch_wait, on_latch, latch_rule}
 use Rattle.cp_group_state.specs.SessionRules.{opened, beat, session_rule}
-use Rattle.cp_group_state.specs.Destroying.{destroy_rule, object_of, names_gone}
+use Rattle.cp_group_state.specs.Destroying.{object_of, names_gone}
 use Rattle.cp_group_state.specs.Apply.{rule, outcome}
-use Rattle.cp_group_state.proofs.Keyed.{no_true, number_key}
+use Rattle.cp_group_state.proofs.Keyed.{no_true}
 use Rattle.cp_group_state.proofs.Grows.{same_some}
 use Rattle.cp_group_state.proofs.Walk.{cases, either}
 use Rattle.cp_state_ranges.specs.Rows.{SessionFits, WaiterFits, is_semaphore, can_wait}

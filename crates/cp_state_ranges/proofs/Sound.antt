@@ -1,5 +1,5 @@
 -- Sound states stay sound, and what they answer fits.
-use Rattle.std.proofs.Common.{◌≡◌, ℕ, ◌+◌, ◌^◌, ◌<◌, ◌≤◌, Bool, true, false, List, [], ◌∷◌, ◌++◌, length, Some, None, Option, refl, sym, subst, arith, if◌then◌else◌}
+use Rattle.std.proofs.Common.{◌≡◌, ℕ, ◌+◌, ◌^◌, ◌<◌, ◌≤◌, false, List, [], ◌∷◌, ◌++◌, length, Some, None, Option, refl, sym, subst, arith}
 use Rattle.std.specs.Prelude.{◌==◌, nat_lt}
 use Rattle.std.specs.List.{AllByRecursion}
 use Rattle.cp_base.specs.declared.identifier.Invocation.{Invocation}
@@ -15,11 +15,11 @@ use Rattle.cp_ops.specs.Entries.{entry_grammar}
 use Rattle.cp_group_state.specs.declared.rows.Waiter.{Waiter}
 use Rattle.cp_group_state.specs.declared.rows.MemoryRow.{MemoryRow}
 use Rattle.cp_group_state.specs.declared.rows.SemaphoreRow.{SemaphoreRow}
-use Rattle.cp_group_state.specs.Rows.{Object, find, most, object_cmp, holding_cmp, holder_cmp}
+use Rattle.cp_group_state.specs.Rows.{Object, find, most, object_cmp, holder_cmp}
 use Rattle.cp_group_state.specs.Waiters.{stands}
 use Rattle.cp_group_state.specs.Memory.{remember}
 use Rattle.cp_group_state.specs.Sessions.{is_open_for, unchanged_since}
-use Rattle.cp_group_state.specs.Semaphores.{Semaphores, is_held}
+use Rattle.cp_group_state.specs.Semaphores.{is_held}
 use Rattle.cp_group_state.specs.GroupState.{GroupState, empty}
 use Rattle.cp_group_state.specs.Changes.{Change, stay}
 use Rattle.cp_group_state.specs.Closing.{close}
@@ -27,21 +27,21 @@ use Rattle.cp_group_state.specs.Outcomes.{Reply, Answered, Waits}
 use Rattle.cp_group_state.specs.Protected.{session_in}
 use Rattle.cp_group_state.specs.Apply.{Applied, told, changed, members_answer, outcome, remembered, settle, settle_wait, join, perform, give_again, by_memory, by_session, supersede, is_elsewhere, apply_call, apply, run}
 use Rattle.cp_group_state.specs.History.{History}
-use Rattle.cp_group_state.specs.Invariants.{IsOrdered, OneSession, held_of, held_by_all}
+use Rattle.cp_group_state.specs.Invariants.{IsOrdered, held_of, held_by_all}
 use Rattle.cp_group_state.proofs.Keyed.{no_true, object_key}
 use Rattle.cp_group_state.proofs.Walk.{cases, either}
 use Rattle.cp_group_state.proofs.Ordered.{order-apply, order-empty, object_total}
 use Rattle.cp_state_ranges.specs.Rows.{SemaphoreFits, AnswerFits}
-use Rattle.cp_state_ranges.specs.States.{IsWithinLimits, StateFits, IsSound}
+use Rattle.cp_state_ranges.specs.States.{StateFits, IsSound}
 use Rattle.cp_state_ranges.specs.Laws.{IsSoundStep}
-use Rattle.cp_state_ranges.proofs.Listed.{Kept, each-append, each-weaker, each-own, test_less}
+use Rattle.cp_state_ranges.proofs.Listed.{each-append, each-weaker, each-own, test_less}
 use Rattle.cp_state_ranges.proofs.Fitting.{index_fits, no_group, call_thread, call_number, none_yet, some_answer, the_answer, fits_ok, fits_expired, fits_stale, fits_group_destroyed, fits_table_full}
 use Rattle.cp_state_ranges.proofs.Parts.{OpParts, SessionNamed, session_named, call_parts, members_parts, destroy_parts}
-use Rattle.cp_state_ranges.proofs.Permits.{RowFits, PermitsKept, row-ranges}
+use Rattle.cp_state_ranges.proofs.Permits.{RowFits, row-ranges}
 use Rattle.cp_state_ranges.proofs.Calls.{told-fits, kept-joined, kept-remembered, memory-found}
 use Rattle.cp_state_ranges.proofs.Good.{Good, with-calls}
 use Rattle.cp_state_ranges.proofs.Walks.{GoodChange, good-stay, good-supersede, good-times, good-close, good-destroy_group}
-use Rattle.cp_state_ranges.proofs.Rules.{ReplyFits, GoodOutcome, good-outcome}
+use Rattle.cp_state_ranges.proofs.Rules.{ReplyFits, good-outcome}
 
 -- ---- sound states are good ones in order
 

@@ -1,8 +1,7 @@
 -- Changes that end waiters keep states good, and what ends has an answer that fits.
-use Rattle.std.proofs.Common.{◌≡◌, ℕ, Bool, true, false, not, ◌&&◌, ◌||◌, List, [], ◌∷◌, ◌++◌, map, Some, None, Option, refl, ap, sym, ◌∙◌, subst, is_some, if◌then◌else◌}
+use Rattle.std.proofs.Common.{◌≡◌, ℕ, Bool, true, false, not, ◌&&◌, List, [], ◌∷◌, ◌++◌, map, Some, None, Option, refl, ap, sym, ◌∙◌, subst, is_some, if◌then◌else◌}
 use Rattle.std.specs.Prelude.{◌==◌, ℤ, pos, int_lt, ◌-ℤ◌, bytes_eq}
 use Rattle.std.specs.List.{filter, list_any, AllByRecursion}
-use Rattle.std.specs.BTreeMap.{is_at}
 use Rattle.std.proofs.lemmas.Cmp.{nat_list_cmp_total}
 use Rattle.std.proofs.lemmas.Slice.Eq.{bytes_eq-Decides}
 use Rattle.cp_base.specs.declared.identifier.GroupId.{GroupId}
@@ -33,16 +32,16 @@ use Rattle.cp_group_state.proofs.Keyed.{no_true, name_key, object_key, pair_key,
 use Rattle.cp_group_state.proofs.Latches.{same_test, same_call_itself}
 use Rattle.cp_group_state.proofs.Walk.{cases, either}
 use Rattle.cp_group_state.proofs.Ordered.{object_total}
-use Rattle.cp_state_ranges.specs.Rows.{LockFits, LongFits, RefFits, PairFits, GoneFits, WaiterFits, MemoryFits, is_semaphore}
+use Rattle.cp_state_ranges.specs.Rows.{LockFits, LongFits, RefFits, PairFits, GoneFits, WaiterFits, MemoryFits}
 use Rattle.cp_state_ranges.specs.States.{HasSemaphore}
-use Rattle.cp_state_ranges.proofs.Listed.{Kept, kept-put, kept-without, kept-filter, each-append, each-filter, each-weaker, each-both, found-put}
+use Rattle.cp_state_ranges.proofs.Listed.{kept-put, kept-without, kept-filter, each-append, each-filter, each-weaker, each-both, found-put, or-right}
 use Rattle.cp_state_ranges.proofs.Fitting.{call_thread, call_number, kind_fits, fits_ok, fits_fence, fits_expired, fits_timed_out, fits_cancelled, fits_object_destroyed, fits_group_destroyed}
 use Rattle.cp_state_ranges.proofs.Atoms.{pair_total}
 use Rattle.cp_state_ranges.proofs.LockSteps.{Handed, kept-freed, kept-handed, handed-among}
 use Rattle.cp_state_ranges.proofs.LatchSteps.{kept-latch_gone}
 use Rattle.cp_state_ranges.proofs.Permits.{kept-served}
 use Rattle.cp_state_ranges.proofs.Returned.{kept-back, grew-back, kept-sem_gone}
-use Rattle.cp_state_ranges.proofs.Calls.{WaitersKept, EndedFits, ended-fits, kept-sessions, kept-waiting, kept-noted}
+use Rattle.cp_state_ranges.proofs.Calls.{EndedFits, ended-fits, kept-sessions, kept-waiting, kept-noted}
 use Rattle.cp_state_ranges.proofs.Good.{Good, with-group, with-sessions, with-locks, with-permits, with-latches, with-longs, with-refs, with-maps, with-gone, with-calls, with-fewer}
 
 pub record GoodChange (c : Change) : Type 0 where
@@ -150,10 +149,6 @@ good-destroy_group group s f h = good-end_all (λ w. true) (λ w. answer.GroupDe
     (with-group s (if s.destroyed_group.0 == 0 then group else s.destroyed_group) (either group_id.Fits (s.destroyed_group.0 == 0) group s.destroyed_group f h.destroyed_group) h)
 
 -- ---- objects that are destroyed
-
-or-right : (a b : Bool) → b ≡ true → (a || b) ≡ true
-or-right true b e = refl
-or-right false b e = e
 
 -- the waiters that pass the test end
 pub ended-all : (test : Waiter → Bool) (a : Waiter → Answer) (ws : List Waiter) (ended : List Ended) → ((c : Invocation) → list_any (λ e. same_call e.waiter.call c) (ending test a ws) ≡ true → list_any (λ e. same_call e.waiter.call c) ended ≡ true)

@@ -1,5 +1,5 @@
 -- Which states of a group are sound: those that a snapshot can spell, and that entries keep so.
-use Rattle.std.specs.Prelude.{◌≡◌, ℕ, ◌≤◌, true, List, length, is_some}
+use Rattle.std.specs.Prelude.{◌≡◌, ◌≤◌, true, List, length, is_some}
 use Rattle.std.specs.List.{AllByRecursion}
 use Rattle.cp_spelling.specs.Common.{group_id}
 use Rattle.cp_group_state.specs.Rows.{Object, find, most, object_cmp}
