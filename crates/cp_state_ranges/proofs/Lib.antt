@@ -1,0 +1,15 @@
+pub mod Listed
+pub mod Fitting
+pub mod Parts
+pub mod Atoms
+pub mod LockSteps
+pub mod LatchSteps
+pub mod Permits
+pub mod Returned
+pub mod Calls
+pub mod Good
+pub mod Walks
+pub mod Rules
+pub mod Sound
+pub mod Owners
+pub mod Counts
