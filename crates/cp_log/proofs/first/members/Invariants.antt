@@ -1,0 +1,6 @@
+use Rattle.std.proofs.Common.{◌≡◌}
+use Rattle.cp_store_state.specs.Durable.{first_members}
+use Rattle.cp_log.proofs.first.members.Given as goal
+
+abbrev pub invariant-loop-number : goal.invariant-loop-number
+invariant-loop-number l = l.members ≡ first_members l.number

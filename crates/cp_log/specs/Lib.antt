@@ -1,0 +1,10 @@
+pub mod Room
+pub mod Rows
+pub mod Durables
+pub mod Changes
+pub mod Recoveries
+pub mod Files
+pub mod Causes
+pub mod Bodies
+pub mod Errors
+pub mod Stores

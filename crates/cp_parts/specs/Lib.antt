@@ -1,0 +1,5 @@
+pub mod Configs
+pub mod LogEntries
+pub mod Heads
+pub mod Parts
+pub mod Laws

@@ -1,0 +1,4 @@
+pub mod Recoveries
+pub mod InForce
+pub mod Groups
+pub mod Worked
