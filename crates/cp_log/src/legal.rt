@@ -76,8 +76,10 @@ impl Durable {
             Part::State(group, term, _vote) => Ok(self.may_vote(group.0, *term)),
             Part::Append(group, term, _vote, after, entries) => {
                 let entries = entries.as_slice();
-                Ok(are_short(self.format, entries)
-                    && self.may_append(group.0, *term, *after, entries.len()))
+                Ok(
+                    are_short(self.format, entries)
+                        && self.may_append(group.0, *term, *after, entries.len()),
+                )
             }
             Part::Begin(group, _first) => {
                 Ok(self.row(group.0).is_none() && !self.ended.contains(&group.0))

@@ -1,9 +1,9 @@
 //! The store: terms, votes, logs and snapshots of groups, kept in a journal of parts.
 #![tactic(auto)]
 
-mod error;
 mod change;
 mod durable;
+mod error;
 mod first;
 mod legal;
 mod prepare;

@@ -34,11 +34,7 @@ fn push_config(
 
 /// The configurations that entries behind an index bring.
 #[tactic(auto, unfolding(cp_store_state::specs::Configurations::configs_in))]
-fn configs_of(
-    alloc: Global,
-    after: u64,
-    entries: &[LogEntry],
-) -> Result<VecDeque<Config>, NoMemory>
+fn configs_of(alloc: Global, after: u64, entries: &[LogEntry]) -> Result<VecDeque<Config>, NoMemory>
     requires { after + length entries.now ≤ 2 ^ 62 }
     ensures { IfOk result (λ configs. configs.items ≡ configs_in after entries.now) }
 {

@@ -133,10 +133,7 @@ pub(crate) fn insert_ended(ended: &mut BTreeSet<u64>, group: u64) -> Result<(), 
 }
 
 /// The numbers of the rows, rising.
-pub(crate) fn numbers_of(
-    alloc: Global,
-    rows: &BTreeMap<u64, Row>,
-) -> Result<Vec<GroupId>, NoMemory>
+pub(crate) fn numbers_of(alloc: Global, rows: &BTreeMap<u64, Row>) -> Result<Vec<GroupId>, NoMemory>
     ensures { IfOk result (λ numbers. map (λ group. group.0) numbers.items ≡ keys_of rows.now.entries) }
 {
     let mut numbers = Vec::new(alloc);

@@ -15,5 +15,5 @@ invariant_of-self c =
     record {
       short = entries_short row.base c.args.after row.log.items c.args.entries.items c.put_behind.new.items.items c.requires.from c.requires.to c.requires.most log_is;
       configs_are = configs_is ∙ entries_configs row.base c.args.after row.log.items c.args.entries.items row.configs.items c.args.configs.items c.requires.from c.requires.to row.configs_are c.requires.brought
-      ∙ sym (ap (configs_in row.base) log_is);
+          ∙ sym (ap (configs_in row.base) log_is);
     }

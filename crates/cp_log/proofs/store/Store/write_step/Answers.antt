@@ -30,15 +30,15 @@ invariant_of-self-2 g c =
     settled c.is_ok.result (is_ok result) _ _ after before (durable_of c.settle.new.state) c.settle.ensures c.is_ok.ensures.value ready.applied ready.given_up in
     record {
       whole = λ none. whole_after result (journals.is_spent c.append-written.new.journal) _ _ _ _ _ _ c.append-written.ensures.ok c.append-written.ensures.starved c.append-written.ensures.full_kept c.append-written.ensures.cause.failed
-      (sym c.is_disk_fault-self.ensures ∙ none);
+          (sym c.is_disk_fault-self.ensures ∙ none);
       fold = λ none told.
-      let is : file_state first old ≡ Ok before = store.fold c.requires.whole told in
-      fold_after result (file_state first new) before after (durable_of c.settle.new.state) _ _
-      (on_ok result (records_of new ≡ and_record (records_of old) c.as_slice.result.now) (file_state first new ≡ Ok after) (λ appended. file_goes first before part c.as_slice.result.now old new is spelled c.requires.fits c.requires.legal appended)
-      (c.append-written.ensures.appended told))
-      (λ starved. file_stays first before old new is (c.append-written.ensures.kept told starved))
-      (λ full. ap (λ d. file_state first (g.D.Disk.seen d)) (c.append-written.ensures.full_kept full).0 ∙ is)
-      c.append-written.ensures.cause.failed state_is (sym c.is_disk_fault-self.ensures ∙ none);
+          let is : file_state first old ≡ Ok before = store.fold c.requires.whole told in
+          fold_after result (file_state first new) before after (durable_of c.settle.new.state) _ _
+          (on_ok result (records_of new ≡ and_record (records_of old) c.as_slice.result.now) (file_state first new ≡ Ok after) (λ appended. file_goes first before part c.as_slice.result.now old new is spelled c.requires.fits c.requires.legal appended)
+          (c.append-written.ensures.appended told))
+          (λ starved. file_stays first before old new is (c.append-written.ensures.kept told starved))
+          (λ full. ap (λ d. file_state first (g.D.Disk.seen d)) (c.append-written.ensures.full_kept full).0 ∙ is)
+          c.append-written.ensures.cause.failed state_is (sym c.is_disk_fault-self.ensures ∙ none);
     }
 
 pub returns-clause-any_moment : goal.returns-clause-any_moment
