@@ -12,7 +12,9 @@ mod recovery;
 mod row;
 mod rows;
 mod store;
+#[cfg(test)]
+mod tests;
 mod writing;
 
 pub use error::StoreError;
-pub use store::Store;
+pub use store::{Store, empty_files_are_sound};

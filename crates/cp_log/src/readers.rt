@@ -1,20 +1,29 @@
 //! Reading a store.
-ghost use Rattle.std.specs.Prelude.{true, false, ◌≡◌, ◌≤◌, ◌==◌, None, Some, map, if◌then◌else◌};
+ghost use Rattle.std.specs.Prelude.{true, ◌≡◌, ◌≤◌, ◌==◌, None, Some, IfOk, map, if◌then◌else◌};
 ghost use Rattle.std.specs.Option.{option_copied, option_map};
 ghost use Rattle.std.specs.Map.{keys_of};
 ghost use Rattle.cp_store_state.specs.Persistent.{entry_at, last, term_at};
 ghost use Rattle.cp_store_state.specs.Configurations.{config_at};
 ghost use Rattle.cp_store_state.specs.Durable.{group_at, group_in, has_ended, has_group};
+ghost use Rattle.cp_store_state.specs.Legal.{is_legal};
 ghost use Rattle.cp_log.specs.Rows.{state_of};
 ghost use Rattle.cp_log.specs.Stores.{held_by};
 
 use crate::row::Row;
 use crate::store::Store;
-use cp_base::GroupId;
+use cp_base::{GroupId, NoMemory};
 use cp_disk::Disk;
-use cp_parts::Config;
+use cp_parts::{Config, Part};
+use std::alloc::Global;
 
 impl<D: Disk> Store<D> {
+    /// Whether a part may follow those so far, as `write_step` asks.
+    pub fn is_legal(&self, alloc: Global, part: &Part) -> Result<bool, NoMemory>
+        ensures { IfOk result (λ is. is ≡ is_legal part.now (held_by self.now)) }
+    {
+        self.state.is_legal(alloc, part)
+    }
+
     /// How often the member has started.
     pub fn restart(&self) -> u64
         ensures { result ≡ (held_by self.now).restart }
