@@ -7,7 +7,6 @@ mod down;
 mod log_entry;
 mod part;
 mod snapshot_head;
-
 #[cfg(test)]
 mod tests;
 

@@ -30,7 +30,13 @@ fn each_part_has_its_bytes(rt: HostRuntime) -> Result<(), Fail> {
     assert!(rt; is_spelled(alloc, &state, &Part::State(GroupId(1), 3, 2))?);
     assert!(rt; state_bytes(GroupId(1), 3, 2) == state);
     let begin = [4, 0, 0, 0, 0, 0, 0, 0, 5, 0, 0, 0, 2, 1, 3];
-    assert!(rt; is_spelled(alloc, &begin, &Part::Begin(GroupId(5), list(alloc, &[1, 3])?))?);
+    assert!(rt;
+        is_spelled(
+            alloc,
+            &begin,
+            &Part::Begin(GroupId(5), list(alloc, &[1, 3])?)
+        )?
+    );
     let end = [5, 0, 0, 0, 0, 0, 0, 0, 5];
     assert!(rt; is_spelled(alloc, &end, &Part::End(GroupId(5)))?);
     let start2 = [7, 0, 0, 0, 0, 0, 0, 0, 2, 2];
