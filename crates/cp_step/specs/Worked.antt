@@ -1,18 +1,16 @@
 -- Steps worked out by hand: small groups that start with nothing, what happens to them, and each message that is then sent.
-use Rattle.std.specs.Prelude.{◌≡◌, ◌≤◌, ℕ, ◌-◌, true, false, List, [], ◌∷◌, ◌++◌, length, drop, map, Option, Some, None, slice_get}
+use Rattle.std.specs.Prelude.{◌≡◌, ◌≤◌, ℕ, ◌-◌, true, false, List, [], ◌∷◌, ◌++◌, length, map, Option, Some, None, slice_get}
 use Rattle.cp_base.specs.declared.identifier.Invocation.{Invocation}
 use Rattle.cp_ops_next.specs.declared.refusal.Refusal.{Refusal}
-use Rattle.cp_ops_next.specs.declared.refusal.Refusal.TheVariants.{WrongMembers, ChangePending, NoOwnTermCommit, AlreadyThere, NotThere, LastMember}
 use Rattle.cp_rules.specs.Entries.{Entry}
 use Rattle.cp_rules.specs.Clusters.{put}
 use Rattle.cp_step.specs.declared.change.Change.{Change}
 use Rattle.cp_step.specs.declared.log_end.LogEnd.{LogEnd}
 use Rattle.cp_step.specs.declared.outcome.Outcome.{Outcome}
-use Rattle.cp_step.specs.declared.outcome.Outcome.TheVariants.{Refused}
 use Rattle.cp_step.specs.Spelling.{Configuration, SnapshotHead, head_of, snapshot_bytes, empty_entry, members_entry}
 use Rattle.cp_step.specs.Persistent.{PersistentState, after_part, SnapshotPart}
 use Rattle.cp_step.specs.Volatile.{Look, VolatileState, started}
-use Rattle.cp_step.specs.Local.{Body, PreVote, PreVoteReply, Vote, VoteReply, Append, AppendReply, Snapshot, SnapshotReply, Confirm, Confirmed, Sent, Event, Tick, Got, Propose, ChangeMembers, Read, LocalStep, does, reply}
+use Rattle.cp_step.specs.Local.{Body, PreVote, PreVoteReply, Vote, VoteReply, Append, AppendReply, Snapshot, SnapshotReply, Confirm, Confirmed, Event, Tick, Got, Propose, ChangeMembers, Read, LocalStep, does, reply}
 use Rattle.cp_step.specs.Changes.{may_change}
 use Rattle.cp_step.specs.Steps.{step}
 
