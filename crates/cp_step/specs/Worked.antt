@@ -138,6 +138,20 @@ other_election =
 abbrev pub another_elected : Group
 another_elected = group_after elected elects_another
 
+-- ---- a beat
+
+-- A member misses an entry and starts again; the leader commits it with the third, and sends at its beat what each of them lacks.
+abbrev pub beats : List Act
+beats = At 1 (Propose call) ∷ Restart 2 ∷ Deliver 14 ∷ Deliver 15 ∷ At 1 (tick 3000) ∷ Deliver 16 ∷ []
+
+abbrev pub beat : List Mail
+beat =
+    mail 1 2 (Append 1 1 1 1 (entry 1 call ∷ [])) ∷ mail 1 3 (Append 1 1 1 1 (entry 1 call ∷ [])) ∷ mail 3 1 (AppendReply 1 true 2)
+    ∷ mail 1 2 (Append 1 1 1 2 (entry 1 call ∷ [])) ∷ mail 1 3 (Append 1 2 1 2 []) ∷ mail 2 1 (AppendReply 1 true 2) ∷ []
+
+abbrev pub beaten : Group
+beaten = group_after elected beats
+
 -- ---- one step of a follower
 
 -- a member 2 of three in term 1, whose log is one empty entry of that term
@@ -205,6 +219,13 @@ addition =
 
 abbrev pub added : Group
 added = group_after (new_group (1 ∷ [])) adds
+
+-- One that is alone takes a snapshot, crashes, and leads again from it.
+abbrev pub restarts : List Act
+restarts = At 1 (tick 2000) ∷ At 1 (Propose call) ∷ At 1 (Tick 3000 true None (Some (8 ∷ 8 ∷ []))) ∷ Restart 1 ∷ At 1 (tick 2000) ∷ []
+
+abbrev pub restarted : Group
+restarted = group_after (new_group (1 ∷ [])) restarts
 
 -- ---- reads without entries
 

@@ -224,11 +224,11 @@ module _ (t : Turn) (clock : ℕ) (may_write : Bool) (machine : Option (List ℕ
   times_out_good : Ends (times_out t.me t.p ticked may_write)
   times_out_good =
       let may = may_stand t.me (members t.p) t.p.term (last_index t.p) (silence ticked) in
-      let office = takes_leadership t.me t.p (record ticked { heard = clock }) (suc t.p.term) in
-      either Ends (not may) (does None ticked []) (if length (members t.p) == 1 then (if may_write then office else does None ticked []) else stands t.me t.p ticked)
+      let taking = takes_leadership t.me t.p (record ticked { heard = clock }) (suc t.p.term) in
+      either Ends (not may) (does None ticked []) (if length (members t.p) == 1 then (if may_write then taking else does None ticked []) else stands t.me t.p ticked)
       (λ h. nothing_due)
-      (λ h. either Ends (length (members t.p) == 1) (if may_write then office else does None ticked []) (stands t.me t.p ticked)
-      (λ one. either Ends may_write office (does None ticked []) (λ w. alone_good (eqb-true (length (members t.p)) 1 one) (from_not may h)) (λ w. nothing_due))
+      (λ h. either Ends (length (members t.p) == 1) (if may_write then taking else does None ticked []) (stands t.me t.p ticked)
+      (λ one. either Ends may_write taking (does None ticked []) (λ w. alone_good (eqb-true (length (members t.p)) 1 one) (from_not may h)) (λ w. nothing_due))
       (λ more. stands_good))
 
   pub tick_good : (expiry : Option (List ℕ)) → ((entry : List ℕ) → expiry ≡ Some entry → members_in entry ≡ None) → Good t (on_tick t.me t.p t.v clock may_write expiry machine)
