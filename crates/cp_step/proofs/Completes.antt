@@ -9,7 +9,7 @@ use Rattle.cp_step.specs.Volatile.{VolatileState}
 use Rattle.cp_step.specs.Local.{SnapshotReply, LocalStep, does, reply}
 use Rattle.cp_step.specs.Terms.{adopted}
 use Rattle.cp_step.specs.Appends.{following}
-use Rattle.cp_step.specs.Snapshots.{received_of, Progress, Apart, TooLong, More, Whole, progress, answers, receives, installs, takes_chunk, whole_of, completes, CompletesWhereInstalled}
+use Rattle.cp_step.specs.Snapshots.{received_of, Progress, Apart, TooLong, More, Whole, progress, answers, receives, installs, takes_chunk, whole_of, CompletesWhereInstalled}
 
 module _ (p : PersistentState) (v : VolatileState) (from term index : ℕ) (all : List ℕ) where
   abbrev installed : Part

@@ -1,5 +1,5 @@
 -- A members entry spells the members that it sets, and a snapshot's head is read from its bytes.
-use Rattle.std.proofs.Common.{◌==◌, ◌&&◌, ◌≡◌, ℕ, zero, suc, ◌+◌, ◌⊎◌, inl, inr, ⊎_elim, Bool, true, false, List, [], ◌∷◌, ◌++◌, length, drop, refl, ap, sym, ◌∙◌, arith, subst, Option, Some, None, if◌then◌else◌}
+use Rattle.std.proofs.Common.{◌==◌, ◌&&◌, ◌≡◌, ℕ, suc, ◌+◌, Bool, true, false, List, [], ◌∷◌, ◌++◌, length, drop, refl, ap, sym, ◌∙◌, arith, Some, None, if◌then◌else◌}
 use Rattle.std.specs.Int.{w32, w64, to_be_bytes}
 use Rattle.std.proofs.lemmas.List.{length-append}
 use Rattle.std.proofs.lemmas.Option.{same_Some}
@@ -8,10 +8,10 @@ use Rattle.cp_codec.specs.Fields.{big_endian}
 use Rattle.cp_codec.specs.Exact.{IsByte}
 use Rattle.cp_grammar.specs.Lawful.{IsLawful}
 use Rattle.cp_grammar.proofs.FieldLaws.{lawful}
-use Rattle.cp_spelling.specs.Common.{index, client_id, thread_no, invocation, members}
+use Rattle.cp_spelling.specs.Common.{index, client_id, thread_no, invocation}
 use Rattle.cp_spelling.specs.CommonLaws.{index_lawful, members_lawful}
-use Rattle.cp_rules.specs.Entries.{is_rising, listed_members, members_after_kind, members_in}
-use Rattle.cp_step.specs.Spelling.{caller_bytes, members_entry, SnapshotHead, snapshot_head, value_read, head_of, snapshot_bytes, FitsHead, ChangesAreSpelled, SnapshotsReadBack}
+use Rattle.cp_rules.specs.Entries.{is_rising, listed_members}
+use Rattle.cp_step.specs.Spelling.{SnapshotHead, snapshot_head, value_read, FitsHead, ChangesAreSpelled, SnapshotsReadBack}
 
 drop_past : (a b : List ℕ) (n : ℕ) → drop (length a + n) (a ++ b) ≡ drop n b
 drop_past [] b n = ap (λ k. drop k b) (omega arith)

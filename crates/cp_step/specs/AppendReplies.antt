@@ -1,5 +1,5 @@
 -- The reply to an Append, at a leader.
-use Rattle.std.specs.Prelude.{ℕ, suc, ◌==◌, min, max, Bool, not, ◌&&◌, if◌then◌else◌, List, [], ◌∷◌, None, nat_lt, nat_le}
+use Rattle.std.specs.Prelude.{ℕ, suc, ◌==◌, min, max, Bool, not, ◌&&◌, if◌then◌else◌, [], ◌∷◌, None, nat_lt, nat_le}
 use Rattle.cp_step.specs.declared.peer.Peer.{Peer}
 use Rattle.cp_step.specs.Persistent.{PersistentState, last_index, members, is_member}
 use Rattle.cp_step.specs.Volatile.{VolatileState, peer, with_peer}

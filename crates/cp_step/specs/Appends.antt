@@ -1,5 +1,5 @@
 -- Append: a follower's log follows the leader's from the first difference on.
-use Rattle.std.specs.Prelude.{ℕ, suc, ◌+◌, ◌-◌, min, max, Bool, true, false, if◌then◌else◌, List, [], ◌∷◌, length, drop, Option, Some, None, nat_lt}
+use Rattle.std.specs.Prelude.{ℕ, suc, ◌+◌, ◌-◌, min, max, true, false, if◌then◌else◌, List, [], ◌∷◌, length, drop, Option, Some, None, nat_lt}
 use Rattle.cp_rules.specs.Entries.{Entry}
 use Rattle.cp_step.specs.declared.ballot.Ballot.{Ballot}
 use Rattle.cp_step.specs.declared.role.Role.TheVariants.{Follower}

@@ -1,5 +1,5 @@
 -- A change of members: one at a time, and only after the configuration before it and an entry of the leader's own term are committed.
-use Rattle.std.specs.Prelude.{ℕ, suc, ◌==◌, Bool, not, ◌&&◌, if◌then◌else◌, List, [], ◌∷◌, length, Option, Some, None, nat_lt}
+use Rattle.std.specs.Prelude.{ℕ, suc, ◌==◌, not, ◌&&◌, if◌then◌else◌, List, [], ◌∷◌, length, Option, Some, None, nat_lt}
 use Rattle.cp_base.specs.declared.identifier.Invocation.{Invocation}
 use Rattle.cp_answers.specs.declared.refusal.Refusal.{Refusal}
 use Rattle.cp_answers.specs.declared.refusal.Refusal.TheVariants.{WrongMembers, ChangePending, NoOwnTermCommit, AlreadyThere, NotThere, LastMember}

@@ -1,5 +1,5 @@
 -- Reads without entries: a leader answers one once a quorum has confirmed, after it came, that it still leads.
-use Rattle.std.specs.Prelude.{ℕ, zero, suc, ◌==◌, Bool, true, false, not, ◌&&◌, ◌||◌, if◌then◌else◌, List, [], ◌∷◌, ◌++◌, length, map, filter, max, Some, None, nat_lt, nat_le, slice_index_or, slice_set}
+use Rattle.std.specs.Prelude.{ℕ, suc, ◌==◌, Bool, true, false, not, ◌&&◌, ◌||◌, if◌then◌else◌, List, [], ◌∷◌, ◌++◌, length, map, filter, max, None, nat_lt, nat_le, slice_index_or, slice_set}
 use Rattle.cp_base.specs.declared.identifier.Invocation.{Invocation}
 use Rattle.cp_answers.specs.declared.refusal.Refusal.TheVariants.{NotLeader, Overloaded}
 use Rattle.cp_step.specs.declared.outcome.Outcome.TheVariants.{Refused}

@@ -1,5 +1,5 @@
 -- An entry that the leader is asked to append, and what refuses it.
-use Rattle.std.specs.Prelude.{ℕ, suc, ◌-◌, Bool, not, if◌then◌else◌, List, [], Option, Some, None, nat_le}
+use Rattle.std.specs.Prelude.{ℕ, suc, ◌-◌, not, if◌then◌else◌, List, [], Option, Some, None, nat_le}
 use Rattle.cp_answers.specs.declared.refusal.Refusal.{Refusal}
 use Rattle.cp_answers.specs.declared.refusal.Refusal.TheVariants.{NotLeader, IndexEnd, Overloaded}
 use Rattle.cp_step.specs.declared.outcome.Outcome.TheVariants.{Proposed, Refused}

@@ -1,5 +1,5 @@
 -- What a leader sends to another member: the entries that it lacks, or a chunk of the snapshot where the base covers them.
-use Rattle.std.specs.Prelude.{ℕ, ◌+◌, ◌-◌, Bool, ◌&&◌, if◌then◌else◌, List, [], ◌∷◌, length, take, drop, map, nat_lt, nat_le}
+use Rattle.std.specs.Prelude.{ℕ, ◌-◌, Bool, ◌&&◌, if◌then◌else◌, List, [], ◌∷◌, length, take, drop, map, nat_lt, nat_le}
 use Rattle.cp_rules.specs.Entries.{Entry}
 use Rattle.cp_step.specs.Limits.{batch_entries, batch_bytes, chunk_bytes}
 use Rattle.cp_step.specs.Persistent.{PersistentState, known_term, members, others}

@@ -1,18 +1,16 @@
 -- Steps worked out by hand: small groups that start with nothing, what happens to them, and each message that is then sent.
-use Rattle.std.specs.Prelude.{◌≡◌, ◌≤◌, ℕ, ◌-◌, true, false, List, [], ◌∷◌, ◌++◌, length, drop, map, Option, Some, None, slice_get}
+use Rattle.std.specs.Prelude.{◌≡◌, ◌≤◌, ℕ, ◌-◌, true, false, List, [], ◌∷◌, ◌++◌, length, map, Option, Some, None, slice_get}
 use Rattle.cp_base.specs.declared.identifier.Invocation.{Invocation}
 use Rattle.cp_answers.specs.declared.refusal.Refusal.{Refusal}
-use Rattle.cp_answers.specs.declared.refusal.Refusal.TheVariants.{WrongMembers, ChangePending, NoOwnTermCommit, AlreadyThere, NotThere, LastMember}
 use Rattle.cp_rules.specs.Entries.{Entry}
 use Rattle.cp_rules.specs.Clusters.{put}
 use Rattle.cp_step.specs.declared.change.Change.{Change}
 use Rattle.cp_step.specs.declared.log_end.LogEnd.{LogEnd}
 use Rattle.cp_step.specs.declared.outcome.Outcome.{Outcome}
-use Rattle.cp_step.specs.declared.outcome.Outcome.TheVariants.{Refused}
 use Rattle.cp_step.specs.Spelling.{Configuration, SnapshotHead, head_of, snapshot_bytes, empty_entry, members_entry}
 use Rattle.cp_step.specs.Persistent.{PersistentState, after_part, SnapshotPart}
 use Rattle.cp_step.specs.Volatile.{Look, VolatileState, started}
-use Rattle.cp_step.specs.Local.{Body, PreVote, PreVoteReply, Vote, VoteReply, Append, AppendReply, Snapshot, SnapshotReply, Confirm, Confirmed, Sent, Event, Tick, Got, Propose, ChangeMembers, Read, LocalStep, does, reply}
+use Rattle.cp_step.specs.Local.{Body, PreVote, PreVoteReply, Vote, VoteReply, Append, AppendReply, Snapshot, SnapshotReply, Confirm, Confirmed, Event, Tick, Got, Propose, ChangeMembers, Read, LocalStep, does, reply}
 use Rattle.cp_step.specs.Changes.{may_change}
 use Rattle.cp_step.specs.Steps.{step}
 
@@ -140,6 +138,20 @@ other_election =
 abbrev pub another_elected : Group
 another_elected = group_after elected elects_another
 
+-- ---- a beat
+
+-- A member misses an entry and starts again; the leader commits it with the third, and sends at its beat what each of them lacks.
+abbrev pub beats : List Act
+beats = At 1 (Propose call) ∷ Restart 2 ∷ Deliver 14 ∷ Deliver 15 ∷ At 1 (tick 3000) ∷ Deliver 16 ∷ []
+
+abbrev pub beat : List Mail
+beat =
+    mail 1 2 (Append 1 1 1 1 (entry 1 call ∷ [])) ∷ mail 1 3 (Append 1 1 1 1 (entry 1 call ∷ [])) ∷ mail 3 1 (AppendReply 1 true 2)
+    ∷ mail 1 2 (Append 1 1 1 2 (entry 1 call ∷ [])) ∷ mail 1 3 (Append 1 2 1 2 []) ∷ mail 2 1 (AppendReply 1 true 2) ∷ []
+
+abbrev pub beaten : Group
+beaten = group_after elected beats
+
 -- ---- one step of a follower
 
 -- a member 2 of three in term 1, whose log is one empty entry of that term
@@ -207,6 +219,13 @@ addition =
 
 abbrev pub added : Group
 added = group_after (new_group (1 ∷ [])) adds
+
+-- One that is alone takes a snapshot, crashes, and leads again from it.
+abbrev pub restarts : List Act
+restarts = At 1 (tick 2000) ∷ At 1 (Propose call) ∷ At 1 (Tick 3000 true None (Some (8 ∷ 8 ∷ []))) ∷ Restart 1 ∷ At 1 (tick 2000) ∷ []
+
+abbrev pub restarted : Group
+restarted = group_after (new_group (1 ∷ [])) restarts
 
 -- ---- reads without entries
 

@@ -11,8 +11,8 @@ ghost use Rattle.cp_step.specs.Volatile.{started};
 ghost use Rattle.cp_step.specs.Local.{does, reply, Got, Append, AppendReply, ChangeMembers, Confirmed};
 ghost use Rattle.cp_step.specs.Snapshots.{CompletesWhereInstalled};
 ghost use Rattle.cp_step.specs.Steps.{step};
-ghost use Rattle.cp_step.specs.Worked.{elected, election, committed, proposal, another_elected, other_election, empty, entry, call, mail};
-ghost use Rattle.cp_step.specs.Worked.{second, follows_one, ChunksStayApart, three, add, remove, refusal, removed, removal, just_elected, outcome_of, added, addition};
+ghost use Rattle.cp_step.specs.Worked.{elected, election, committed, proposal, another_elected, other_election, beaten, beat, empty, entry, call, mail};
+ghost use Rattle.cp_step.specs.Worked.{second, follows_one, ChunksStayApart, three, add, remove, refusal, removed, removal, just_elected, outcome_of, added, addition, restarted};
 ghost use Rattle.cp_step.specs.Worked.{has_read, round, has_lost, look};
 
 mod ballot;
@@ -44,6 +44,12 @@ pub fn another_leader()
     ensures messages { another_elected.sent ≡ election ++ other_election }
     ensures commit { (another_elected.seats 2).state.commit ≡ 2 }
     ensures log { (another_elected.seats 1).stored.log ≡ empty 1 ∷ empty 2 ∷ [] }
+{}
+
+/// At its beat a leader sends to each member what that one lacks.
+pub fn beats_with_what_is_lacking()
+    ensures messages { beaten.sent ≡ election ++ beat }
+    ensures commit { (beaten.seats 2).state.commit ≡ 2 }
 {}
 
 /// An Append in which nothing is new writes no part; one that begins past the end of the log is refused with that end.
@@ -81,6 +87,14 @@ pub fn adds_a_member()
     ensures messages { added.sent ≡ addition }
     ensures leader { (added.seats 1).state.commit ≡ 6 }
     ensures member { (added.seats 2).stored.base ≡ 5 }
+{}
+
+/// A member that starts again goes on from its snapshot.
+pub fn restarts_from_a_snapshot()
+    ensures base { (restarted.seats 1).stored.base ≡ 2 }
+    ensures term { (restarted.seats 1).stored.base_term ≡ 1 }
+    ensures log { (restarted.seats 1).stored.log ≡ empty 2 ∷ [] }
+    ensures commit { (restarted.seats 1).state.commit ≡ 3 }
 {}
 
 /// A read is answered once a quorum has confirmed its round, without an entry.

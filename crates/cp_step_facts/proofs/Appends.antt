@@ -1,29 +1,27 @@
 -- An Append that came.
-use Rattle.std.proofs.Common.{◌≡◌, ℕ, suc, ◌+◌, ◌-◌, ◌<◌, ◌≤◌, ◌⊎◌, inl, inr, ⊎_elim, min, max, Bool, true, false, List, [], ◌++◌, length, take, drop, refl, ap, sym, ◌∙◌, arith, subst, Option, Some, None, slice_get, All, nat_lt, true≢false, ltb-true, ltb-false, if◌then◌else◌}
+use Rattle.std.proofs.Common.{◌≡◌, ℕ, ◌+◌, ◌-◌, ◌<◌, ◌≤◌, ◌⊎◌, inl, inr, ⊎_elim, min, Bool, true, false, List, [], ◌++◌, length, take, drop, refl, ap, sym, ◌∙◌, arith, subst, Option, Some, None, slice_get, All, nat_lt, ltb-true, ltb-false, if◌then◌else◌}
 use Rattle.std.proofs.lemmas.Bool.{cases_lt}
-use Rattle.std.proofs.lemmas.List.{length-append, length-drop, length-take}
+use Rattle.std.proofs.lemmas.List.{length-drop}
 use Rattle.std.proofs.lemmas.List.Elements.{All-nil}
 use Rattle.std.proofs.lemmas.Option.{slice_get_within}
 use Rattle.cp_rules.specs.Clusters as cluster
 use Rattle.cp_rules.specs.Entries.{Entry}
-use Rattle.cp_rules.specs.Logs.{HasTerm, HasTerms, Replaces}
-use Rattle.cp_rules.specs.Facts.{KnowsTerm, GotAppend, Acknowledges}
+use Rattle.cp_rules.specs.Logs.{HasTerms, Replaces}
+use Rattle.cp_rules.specs.Facts.{GotAppend, Acknowledges}
 use Rattle.cp_agreement.proofs.Logs.{get-drop, replaced_low, replaced_length}
-use Rattle.cp_safety.specs.Tracking as tracking
-use Rattle.cp_safety.specs.Tracking.{untracked_cluster, uncut_step, SendsTruly, TrackedFacts}
-use Rattle.cp_step.specs.declared.role.Role.TheVariants.{Follower, Candidate, Leader}
+use Rattle.cp_safety.specs.Tracking.{untracked_cluster, uncut_step, SendsTruly}
+use Rattle.cp_step.specs.declared.role.Role.TheVariants.{Follower}
 use Rattle.cp_step.specs.Persistent.{PersistentState, AppendPart, ballot, last_index, term_at, has_term, ballot_part}
 use Rattle.cp_step.specs.Volatile.{VolatileState}
-use Rattle.cp_step.specs.Local.{Sent, AppendReply, does, reply, send, LocalStep}
+use Rattle.cp_step.specs.Local.{Sent, AppendReply, does, reply, send}
 use Rattle.cp_step.specs.Terms.{adopted}
 use Rattle.cp_step.specs.Appends.{following, Difference, difference, follower_commit, takes, refused_index, goes_on, on_append}
-use Rattle.cp_step_facts.specs.Soundness.{IsSound}
-use Rattle.cp_step_facts.proofs.Basics.{either, seen_leader, seen_candidate, follower_or_leader, follower_or_candidate, one}
+use Rattle.cp_step_facts.proofs.Basics.{either, follower_or_leader, follower_or_candidate, one}
 use Rattle.cp_step_facts.proofs.Knowing.{has_known, known_within}
 use Rattle.cp_step_facts.proofs.Turns.{Turn, got, here, core, Truth, Left, Good}
 use Rattle.cp_step_facts.proofs.Quiet.{with_ballot, after_ballot, adopting, adopted_term, calm_low, takes_ballot}
 use Rattle.cp_step_facts.proofs.Votes.{plain}
-use Rattle.cp_step_facts.proofs.Differences.{Differs, differs_at, replaced_terms, reaches, replacing, none_replaced}
+use Rattle.cp_step_facts.proofs.Differences.{differs_at, replaced_terms, reaches, replacing, none_replaced}
 
 module _ (t : Turn) (from term previous previous_term told : ℕ) (entries : List Entry) (got_is : got t ≡ Some (cluster.Append from term previous previous_term entries told)) (low : t.p.term ≤ term) where
   -- where the message ends

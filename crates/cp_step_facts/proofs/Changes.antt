@@ -1,24 +1,23 @@
 -- Entries that a leader is asked for, and changes of members.
-use Rattle.std.proofs.Common.{◌&&◌, ◌==◌, ◌≡◌, ◌≢◌, ℕ, zero, suc, ◌+◌, ◌<◌, ◌≤◌, ◌⊎◌, inl, inr, ⊎_elim, not, Bool, true, false, List, [], ◌∷◌, length, refl, ap, sym, ◌∙◌, arith, subst, Option, Some, None, unwrap_or, slice_get, nat_lt, nat_le, le_refl, le_of_eq, true≢false, ltb-false, if◌then◌else◌}
+use Rattle.std.proofs.Common.{◌&&◌, ◌==◌, ◌≡◌, ℕ, zero, suc, ◌+◌, ◌<◌, ◌≤◌, ◌⊎◌, inl, inr, ⊎_elim, not, Bool, true, false, List, [], ◌∷◌, length, refl, ap, sym, ◌∙◌, arith, subst, Option, Some, None, unwrap_or, slice_get, nat_lt, le_refl, le_of_eq, true≢false, ltb-false, if◌then◌else◌}
 use Rattle.std.proofs.lemmas.Bool.{cases_Bool, eqb-true}
 use Rattle.std.proofs.lemmas.Option.{same_Some}
 use Rattle.cp_base.specs.declared.identifier.Invocation.{Invocation}
 use Rattle.cp_answers.specs.declared.refusal.Refusal.{Refusal}
-use Rattle.cp_answers.specs.declared.refusal.Refusal.TheVariants.{NotLeader, IndexEnd, Overloaded, WrongMembers, ChangePending, NoOwnTermCommit, AlreadyThere, NotThere, LastMember}
+use Rattle.cp_answers.specs.declared.refusal.Refusal.TheVariants.{NotLeader, WrongMembers, ChangePending, NoOwnTermCommit, AlreadyThere, NotThere, LastMember}
 use Rattle.cp_rules.specs.Entries.{Entry, members_in}
 use Rattle.cp_rules.specs.Configurations.{HasOneMore, AreOneApart}
 use Rattle.cp_rules.specs.Facts.{KnowsTerm, ChangesAreSingle, configuration_of}
-use Rattle.cp_safety.specs.Tracking.{untracked, untracked_cluster, uncut_step, MatchedUpto}
+use Rattle.cp_safety.specs.Tracking.{untracked, untracked_cluster, uncut_step}
 use Rattle.cp_step.specs.declared.change.Change.{Change}
 use Rattle.cp_step.specs.declared.peer.Peer.{Peer}
 use Rattle.cp_step.specs.declared.role.Role.TheVariants.{Leader}
-use Rattle.cp_step.specs.Limits.{most_index, most_uncommitted}
 use Rattle.cp_step.specs.Spelling.{Configuration, configuration_in, plan_in, members_entry}
-use Rattle.cp_step.specs.Persistent.{PersistentState, ballot, last_index, known_term, configuration, configuration_after, members, is_member}
+use Rattle.cp_step.specs.Persistent.{ballot, last_index, known_term, configuration, configuration_after, members, is_member}
 use Rattle.cp_step.specs.Volatile.{VolatileState, peer, new_peer, with_peer}
 use Rattle.cp_step.specs.Local.{LocalStep, is_leader}
-use Rattle.cp_step.specs.Requests.{refuses, refuses_entry, unless_refused, proposes, on_propose}
-use Rattle.cp_step.specs.Changes.{may_change, refuses_change, with_member, without_member, changed, with_added, changes, on_change}
+use Rattle.cp_step.specs.Requests.{refuses_entry, unless_refused, proposes, on_propose}
+use Rattle.cp_step.specs.Changes.{refuses_change, with_member, without_member, changed, with_added, changes, on_change}
 use Rattle.cp_step.proofs.SpellingLaws.{entry_members}
 use Rattle.cp_step_facts.specs.Seen.{seen_role, tracked_member}
 use Rattle.cp_step_facts.specs.Soundness.{IsPlaced}

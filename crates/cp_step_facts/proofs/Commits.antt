@@ -1,7 +1,7 @@
 -- What a leader commits, what it sends, and an entry that it creates.
-use Rattle.std.proofs.Common.{◌||◌, ◌&&◌, ◌==◌, ◌≡◌, ◌≢◌, ℕ, zero, suc, ◌+◌, ◌-◌, ◌<◌, ◌≤◌, ◌⊎◌, inl, inr, ⊎_elim, Bool, true, false, List, [], ◌∷◌, ◌++◌, length, take, drop, map, refl, ap, sym, ◌∙◌, arith, subst, Option, Some, None, slice_get, All, nat_lt, nat_le, le_refl, if◌then◌else◌}
-use Rattle.std.proofs.lemmas.Bool.{eqb-true, or_cases, leb-true, leb-false, le-leb, and_parts}
-use Rattle.std.proofs.lemmas.List.{length-append, length-drop, length-take, take-append-le}
+use Rattle.std.proofs.Common.{◌&&◌, ◌==◌, ◌≡◌, ◌≢◌, ℕ, zero, suc, ◌+◌, ◌-◌, ◌<◌, ◌≤◌, ◌⊎◌, inl, inr, ⊎_elim, Bool, true, List, [], ◌∷◌, ◌++◌, length, take, drop, map, refl, ap, sym, ◌∙◌, arith, subst, Some, slice_get, All, nat_lt, nat_le, if◌then◌else◌}
+use Rattle.std.proofs.lemmas.Bool.{eqb-true, or_cases, leb-true, leb-false, and_parts}
+use Rattle.std.proofs.lemmas.List.{length-append, length-take}
 use Rattle.std.proofs.lemmas.List.Elements.{All-nil}
 use Rattle.std.proofs.Math.Seq.{take-length}
 use Rattle.cp_rules.specs.Entries.{Entry, members_in}
@@ -15,9 +15,9 @@ use Rattle.cp_safety.specs.Chunks.{IsPiece}
 use Rattle.cp_step.specs.declared.ballot.Ballot.{Ballot}
 use Rattle.cp_step.specs.declared.role.Role.TheVariants.{Follower, Candidate, Leader}
 use Rattle.cp_step.specs.Limits.{batch_entries, batch_bytes, chunk_bytes}
-use Rattle.cp_step.specs.Persistent.{PersistentState, last_index, term_at, has_term, known_term, configuration_at, members, is_member, others, is_quorum, with_part}
+use Rattle.cp_step.specs.Persistent.{PersistentState, last_index, term_at, has_term, configuration_at, members, is_member, others, is_quorum, with_part}
 use Rattle.cp_step.specs.Volatile.{VolatileState, peer}
-use Rattle.cp_step.specs.Local.{Sent, LocalStep, is_leader, send}
+use Rattle.cp_step.specs.Local.{is_leader, send}
 use Rattle.cp_step.specs.Terms.{steps_down}
 use Rattle.cp_step.specs.Sending.{within, batch, chunk, is_last_chunk, chunk_from, entries_from, append_to, appends}
 use Rattle.cp_step.specs.Commit.{greatest, holds, may_commit, commit_found, commits_to, commits}
@@ -26,7 +26,7 @@ use Rattle.cp_step_facts.specs.Seen.{seen_role, tracked_member}
 use Rattle.cp_step_facts.specs.Soundness.{IsSound, IsPlaced}
 use Rattle.cp_step_facts.proofs.Basics.{either, leader_is, seen_candidate, leader_or_candidate, follower_or_candidate, all_mapped}
 use Rattle.cp_step_facts.proofs.Knowing.{has_known, knows_at, members_are, quorum_is}
-use Rattle.cp_step_facts.proofs.Turns.{Turn, here, core, IsOwnChunk, Truth, Left, Good}
+use Rattle.cp_step_facts.proofs.Turns.{Turn, here, core, Truth, Good}
 
 -- ---- the search for the commit
 

@@ -1,26 +1,24 @@
 -- Becoming a candidate, and taking leadership by votes or alone.
-use Rattle.std.proofs.Common.{◌||◌, ◌&&◌, ◌==◌, ◌≡◌, ◌≢◌, ℕ, zero, suc, ◌<◌, ◌≤◌, ◌⊎◌, inl, inr, ⊎_elim, Bool, true, false, List, [], ◌∷◌, length, map, refl, ap, ap₂, sym, ◌∙◌, arith, Option, Some, None, All, nat_lt, le_refl, true≢false, if◌then◌else◌}
+use Rattle.std.proofs.Common.{◌||◌, ◌&&◌, ◌==◌, ◌≡◌, ◌≢◌, ℕ, suc, ◌<◌, ◌≤◌, ◌⊎◌, inl, inr, ⊎_elim, Bool, true, false, List, [], ◌∷◌, length, refl, ap, ap₂, sym, ◌∙◌, arith, Some, None, le_refl, true≢false, if◌then◌else◌}
 use Rattle.std.proofs.lemmas.Bool.{cases_Bool, or_cases, eqb-true, and_parts}
 use Rattle.std.proofs.lemmas.List.Elements.{All-nil}
 use Rattle.cp_rules.specs.Clusters as cluster
 use Rattle.cp_rules.specs.Facts.{configuration_of}
-use Rattle.cp_safety.specs.Tracking as tracking
 use Rattle.cp_safety.specs.Tracking.{untracked, Counts, WinsByVotes, WinsAlone}
 use Rattle.cp_step.specs.declared.ballot.Ballot.{Ballot}
 use Rattle.cp_step.specs.declared.role.Role.TheVariants.{PreCandidate, Candidate, Leader}
 use Rattle.cp_step.specs.Spelling.{empty_entry}
 use Rattle.cp_step.specs.Persistent.{PersistentState, last_index, log_end, members, is_member, others, is_quorum}
 use Rattle.cp_step.specs.Volatile.{VolatileState, has_voted, no_votes, new_peer}
-use Rattle.cp_step.specs.Local.{Vote, Sent, LocalStep, does, send, is_leader, is_candidate, is_pre_candidate}
-use Rattle.cp_step.specs.Terms.{adopts}
+use Rattle.cp_step.specs.Local.{Vote, does, send, is_leader, is_candidate, is_pre_candidate}
 use Rattle.cp_step.specs.Leadership.{leading, takes_leadership}
 use Rattle.cp_step.specs.PreVotes.{with_vote, has_quorum, becomes_candidate, counts_prevote, on_prevote_reply}
 use Rattle.cp_step.specs.Votes.{counts_vote, on_vote_reply}
 use Rattle.cp_step_facts.specs.Seen.{seen_role, tracked_member}
-use Rattle.cp_step_facts.specs.Soundness.{IsSound, IsPlaced}
+use Rattle.cp_step_facts.specs.Soundness.{IsPlaced}
 use Rattle.cp_step_facts.proofs.Basics.{either, candidate_is, pre_candidate_is, seen_leader, set_index, same_everywhere, all_mapped}
 use Rattle.cp_step_facts.proofs.Knowing.{ends, members_are, quorum_is}
-use Rattle.cp_step_facts.proofs.Turns.{Turn, got, here, core, Truth, Left, Good}
+use Rattle.cp_step_facts.proofs.Turns.{Turn, got, here, core, Truth, Good}
 use Rattle.cp_step_facts.proofs.Quiet.{with_ballot, rests, quiet_low, quiet_same, silent}
 use Rattle.cp_step_facts.proofs.Votes.{adopts_or}
 use Rattle.cp_step_facts.proofs.Commits.{created, Creates, creates_good}

@@ -1,11 +1,10 @@
 -- An execution of local steps, by induction.
-use Rattle.std.proofs.Common.{◌≡◌, ◌≢◌, ℕ, ◌⊎◌, inl, inr, ⊎_elim, Bool, true, false, List, [], ◌∷◌, ◌++◌, map, refl, ap, sym, ◌∙◌, arith, subst, Option, Some, None, Contains, le_refl, if◌then◌else◌}
+use Rattle.std.proofs.Common.{◌≡◌, ◌≢◌, ℕ, inl, ⊎_elim, Bool, true, false, List, [], ◌∷◌, map, refl, ap, sym, ◌∙◌, arith, subst, Option, Some, None, Contains, le_refl, if◌then◌else◌}
 use mathlib.Core.Path.{fun_ext}
 use Rattle.std.proofs.lemmas.Bool.{cases_eq, cases_Bool}
 use Rattle.std.proofs.lemmas.Option.{same_Some}
 use Rattle.std.proofs.lemmas.List.Elements.{Contains-append_left, Contains-append_right, Contains-append_cases}
 use Rattle.cp_rules.specs.Clusters.{Member, Step, put, cluster_after, IsMoment}
-use Rattle.cp_rules.specs.Facts.{MeetsFacts}
 use Rattle.cp_agreement.proofs.Ghost.{put_same, put_other}
 use Rattle.cp_safety.specs.Tracking as tracking
 use Rattle.cp_safety.specs.Tracking.{TrackedMember, restarted, untracked}
@@ -13,13 +12,12 @@ use Rattle.cp_safety.specs.Chunks.{ChunkedMember, ChunkedCluster, ChunkedStep, W
 use Rattle.cp_safety.proofs.Lists.{contains_map, contains_unmap}
 use Rattle.cp_safety.proofs.Chunks.{chunked_executions}
 use Rattle.cp_safety.proofs.Laws.{one_office}
-use Rattle.cp_step.specs.declared.role.Role.TheVariants.{Leader}
 use Rattle.cp_step.specs.Spelling.{Configuration}
 use Rattle.cp_step.specs.Persistent.{PersistentState}
 use Rattle.cp_step.specs.Volatile.{VolatileState, new_peer, started}
-use Rattle.cp_step.specs.Local.{Body, Sent, Event, Tick, Got, Propose, ChangeMembers, Read}
-use Rattle.cp_step_facts.specs.Seen.{seen_role, tracked_member, chunked_member, wire, sent_wire, came_by, reader}
-use Rattle.cp_step_facts.specs.Soundness.{IsSound, IsFair}
+use Rattle.cp_step.specs.Local.{Event, Tick, Got, Propose, ChangeMembers, Read}
+use Rattle.cp_step_facts.specs.Seen.{seen_role, chunked_member, wire, sent_wire, came_by, reader}
+use Rattle.cp_step_facts.specs.Soundness.{IsSound}
 use Rattle.cp_step_facts.specs.Executions.{Local, Mail, LocalCluster, Act, mail, did, stored_after, left_by, opening, after_act, local_after, IsAllowed, IsExecution, seen_act, seen_acts, LocalExecution, LocalExecutions, Agrees, OneLeader}
 use Rattle.cp_step_facts.proofs.Basics.{same_everywhere}
 use Rattle.cp_step_facts.proofs.Laws.{stays_sound, steps_meet_facts}

@@ -1,5 +1,5 @@
 -- What the words on stored state say: the terms that are known, the end of the log, the configuration.
-use Rattle.std.proofs.Common.{◌==◌, ◌≡◌, ℕ, zero, suc, ◌+◌, ◌-◌, ◌*◌, ◌<◌, ◌≤◌, ◌⊎◌, inl, inr, ⊎_elim, Bool, true, false, List, [], ◌∷◌, length, refl, ap, sym, ◌∙◌, arith, subst, Option, Some, None, unwrap_or, slice_get, nat_lt, nat_le, le_refl, true≢false, ltb-true, ltb-false, if◌then◌else◌, option_map, count_by}
+use Rattle.std.proofs.Common.{◌==◌, ◌≡◌, ℕ, zero, suc, ◌+◌, ◌-◌, ◌*◌, ◌<◌, ◌≤◌, inl, inr, ⊎_elim, Bool, true, false, List, [], ◌∷◌, length, refl, ap, sym, ◌∙◌, arith, subst, Option, Some, None, unwrap_or, slice_get, nat_lt, nat_le, le_refl, true≢false, ltb-true, ltb-false, if◌then◌else◌, option_map, count_by}
 use Rattle.std.proofs.lemmas.Bool.{cases_Bool, eq-eqb, eqb-true, leb-true, le-ltb}
 use Rattle.std.proofs.lemmas.Option.{slice_get_within}
 use Rattle.cp_rules.specs.Entries.{Entry, members_in}
@@ -11,7 +11,7 @@ use Rattle.cp_agreement.proofs.Logs.{has_place}
 use Rattle.cp_safety.specs.Tracking.{untracked}
 use Rattle.cp_step.specs.declared.log_end.LogEnd.{LogEnd}
 use Rattle.cp_step.specs.Spelling.{Configuration, configuration_in, plan_in}
-use Rattle.cp_step.specs.Persistent.{PersistentState, last_index, term_after, term_at, is_term, has_term, known_term, log_end, configuration_after, configuration, members, is_quorum}
+use Rattle.cp_step.specs.Persistent.{PersistentState, last_index, term_after, is_term, has_term, known_term, log_end, configuration_after, members, is_quorum}
 use Rattle.cp_step.specs.Volatile.{VolatileState}
 use Rattle.cp_step.specs.PreVotes.{is_up_to_date}
 use Rattle.cp_step_facts.specs.Seen.{tracked_member}

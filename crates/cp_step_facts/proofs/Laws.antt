@@ -1,5 +1,5 @@
 -- Local steps meet the facts with chunks, and leave sound members.
-use Rattle.std.proofs.Common.{◌==◌, ◌&&◌, ◌≡◌, ◌≢◌, ℕ, zero, suc, ◌<◌, ◌≤◌, ◌⊎◌, inl, inr, ⊎_elim, Bool, true, false, List, [], ◌∷◌, ◌++◌, length, map, refl, ap, ap₂, sym, ◌∙◌, arith, subst, Option, Some, None, unwrap_or, option_map, Contains, All, le_refl, if◌then◌else◌}
+use Rattle.std.proofs.Common.{◌==◌, ◌&&◌, ◌≡◌, ℕ, zero, suc, ◌<◌, ◌⊎◌, inl, inr, ⊎_elim, Bool, true, false, List, [], ◌∷◌, ◌++◌, length, map, refl, ap, ap₂, sym, ◌∙◌, arith, subst, Option, Some, None, unwrap_or, option_map, Contains, All, le_refl}
 use Rattle.std.proofs.lemmas.Bool.{cases_Bool, eqb-true, and_parts}
 use Rattle.std.proofs.lemmas.Option.{same_Some}
 use Rattle.std.proofs.lemmas.List.Elements.{All-nil, All-cons, All-head, All-tail, All-contains}
@@ -8,18 +8,16 @@ use Rattle.cp_safety.specs.Tracking.{TrackedCluster, TrackedFacts, SendsTruly}
 use Rattle.cp_safety.specs.Chunks as chunks
 use Rattle.cp_safety.specs.Chunks.{ChunkedMember, ChunkedCluster, ChunkedStep, ChunkedFacts, Wire, AsItIs, Chunk, seen_got, seen_sent, seen_step, Joins, SendsChunk, SameSnapshot, NewSnapshot}
 use Rattle.cp_safety.proofs.Lists.{contains_unmap}
-use Rattle.cp_step.specs.Spelling.{SnapshotHead}
 use Rattle.cp_step.specs.Persistent.{PersistentState, after_part}
 use Rattle.cp_step.specs.Volatile.{Received, VolatileState, started}
-use Rattle.cp_step.specs.Local.{Body, PreVote, PreVoteReply, Vote, VoteReply, Append, AppendReply, Snapshot, SnapshotReply, Confirm, Confirmed, Sent, Event, LocalStep, does}
+use Rattle.cp_step.specs.Local.{Body, PreVote, PreVoteReply, Vote, VoteReply, Append, AppendReply, Snapshot, SnapshotReply, Confirm, Confirmed, Sent, Event, LocalStep}
 use Rattle.cp_step.specs.Snapshots.{joined, received_of}
-use Rattle.cp_step.specs.Steps.{step}
 use Rattle.cp_step_facts.specs.Seen.{tracked_member, chunked_member, seen_received, wire, sent_wire, step_of, came_by, came_with, chunked_step, head_term, head_members, reader}
 use Rattle.cp_step_facts.specs.Soundness.{IsSound, IsFair}
 use Rattle.cp_step_facts.specs.Laws.{StepsMeetFacts, StaysSound}
-use Rattle.cp_step_facts.proofs.Turns.{Turn, here, core, IsOwnChunk, Truth, KeepsSnapshot, RaisesSnapshot, GoesOn, Receives, Left, Good}
+use Rattle.cp_step_facts.proofs.Turns.{Turn, here, core, IsOwnChunk, Truth, KeepsSnapshot, RaisesSnapshot, GoesOn, Receives, Good}
 use Rattle.cp_step_facts.proofs.Quiet.{silent}
-use Rattle.cp_step_facts.proofs.Moved.{alike, moved}
+use Rattle.cp_step_facts.proofs.Moved.{moved}
 use Rattle.cp_step_facts.proofs.Steps.{step_good}
 
 -- a step, or nothing where a crash comes between two

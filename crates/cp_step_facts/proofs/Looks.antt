@@ -5,8 +5,8 @@ use Rattle.cp_answers.specs.declared.refusal.Refusal.TheVariants.{NotLeader, Ove
 use Rattle.cp_step.specs.declared.outcome.Outcome.TheVariants.{Refused}
 use Rattle.cp_step.specs.Limits.{most_looks}
 use Rattle.cp_step.specs.Persistent.{members, others}
-use Rattle.cp_step.specs.Volatile.{Reads, VolatileState}
-use Rattle.cp_step.specs.Local.{Confirm, LocalStep, does, send, is_leader}
+use Rattle.cp_step.specs.Volatile.{VolatileState}
+use Rattle.cp_step.specs.Local.{Confirm, does, send, is_leader}
 use Rattle.cp_step.specs.Confirming.{confirms, waits, begins_round, on_read}
 use Rattle.cp_step_facts.proofs.Basics.{either, all_mapped}
 use Rattle.cp_step_facts.proofs.Turns.{Turn, Truth, Good}

@@ -1,9 +1,9 @@
 -- The facts of a step hold whatever the other members are, and whatever else is sent, if it is true; and whether a crash cuts the step
 -- off or not. Each record is made again.
-use Rattle.std.proofs.Common.{◌≡◌, ℕ, ◌⊎◌, inl, inr, ⊎_elim, Bool, List, [], ◌∷◌, All}
+use Rattle.std.proofs.Common.{ℕ, inl, inr, ⊎_elim, Bool, List, [], ◌∷◌, All}
 use Rattle.std.proofs.lemmas.List.Elements.{All-nil, All-cons, All-head, All-tail}
 use Rattle.cp_rules.specs.Clusters.{Message, Vote, Voted, Append, Appended, Snapshot, Done, Other, Cluster, Step}
-use Rattle.cp_rules.specs.Facts.{ChangesAreSingle, EntriesCreated, GotAppend, FollowsAbove, FollowsBelow, TakesSnapshot, InstallsSnapshot, GivesVote, SendsAppend, SendsSnapshot, SendsVote, Acknowledges, Finishes, FollowerCommits}
+use Rattle.cp_rules.specs.Facts.{ChangesAreSingle, EntriesCreated, GotAppend, FollowsAbove, FollowsBelow, TakesSnapshot, InstallsSnapshot, GivesVote, Acknowledges, Finishes, FollowerCommits}
 use Rattle.cp_safety.specs.Tracking.{TrackedCluster, TrackedStep, TrackedFacts, untracked_cluster, uncut_step, WinsByVotes, WinsAlone, StaysCandidate, BecomesCandidate, LeaderCommitsByMatch, SendsTruly}
 
 module _ (z : TrackedCluster) (s : TrackedStep) (sends : List Message) (cut : Bool) where

@@ -8,7 +8,7 @@ use Rattle.cp_step.specs.declared.ballot.Ballot.{Ballot}
 use Rattle.cp_step.specs.declared.role.Role.TheVariants.{Follower, Candidate, Leader}
 use Rattle.cp_step.specs.Persistent.{PersistentState, Part, StatePart, ballot, last_index, after_part, ballot_part}
 use Rattle.cp_step.specs.Volatile.{VolatileState, has_voted, peer}
-use Rattle.cp_step.specs.Local.{Sent, LocalStep, does, is_leader}
+use Rattle.cp_step.specs.Local.{Sent, does, is_leader}
 use Rattle.cp_step.specs.Terms.{adopted, steps_down, steps_down_for, adopts}
 use Rattle.cp_step_facts.specs.Seen.{seen_role}
 use Rattle.cp_step_facts.specs.Soundness.{IsSound, IsPlaced}

@@ -1,5 +1,5 @@
 -- The replies to an Append and to a chunk, at a leader.
-use Rattle.std.proofs.Common.{◌&&◌, ◌==◌, ◌≡◌, ◌≢◌, ℕ, suc, ◌-◌, ◌<◌, ◌≤◌, ◌⊎◌, inl, inr, ⊎_elim, min, max, not, Bool, true, false, List, [], ◌∷◌, length, refl, ap, sym, ◌∙◌, arith, subst, Option, Some, None, All, nat_lt, nat_le, le_refl, le_of_eq, if◌then◌else◌}
+use Rattle.std.proofs.Common.{◌&&◌, ◌==◌, ◌≡◌, ◌≢◌, ℕ, ◌≤◌, ◌⊎◌, inl, inr, ⊎_elim, not, Bool, true, false, List, [], ◌∷◌, length, refl, ap, sym, ◌∙◌, arith, subst, Some, None, All, nat_lt, nat_le, le_refl, le_of_eq, if◌then◌else◌}
 use Rattle.std.proofs.lemmas.Bool.{leb-true, eqb-true, and_parts}
 use Rattle.std.proofs.lemmas.List.Elements.{All-nil}
 use Rattle.cp_rules.specs.Clusters as cluster

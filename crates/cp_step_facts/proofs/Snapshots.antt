@@ -1,5 +1,5 @@
 -- A chunk that came.
-use Rattle.std.proofs.Common.{◌&&◌, ◌≡◌, ℕ, suc, ◌+◌, ◌-◌, ◌<◌, ◌≤◌, ◌⊎◌, inl, inr, ⊎_elim, not, Bool, true, false, List, [], length, drop, refl, ap, ap₂, sym, ◌∙◌, arith, subst, Option, Some, None, is_none, All, nat_lt, nat_le, le_refl, true≢false, ltb-false, if◌then◌else◌}
+use Rattle.std.proofs.Common.{◌≡◌, ℕ, ◌-◌, ◌<◌, ◌≤◌, ◌⊎◌, inl, inr, Bool, true, false, List, [], length, drop, refl, ap, ap₂, sym, ◌∙◌, arith, subst, Option, Some, None, is_none, nat_lt, nat_le, le_refl, true≢false, ltb-false, if◌then◌else◌}
 use Rattle.std.proofs.lemmas.Bool.{leb-true, leb-false}
 use Rattle.std.proofs.lemmas.List.Elements.{All-nil}
 use Rattle.cp_rules.specs.Clusters as cluster
@@ -9,17 +9,17 @@ use Rattle.cp_safety.specs.Chunks.{Chunk}
 use Rattle.cp_step.specs.declared.role.Role.TheVariants.{Follower}
 use Rattle.cp_step.specs.Limits.{most_snapshot}
 use Rattle.cp_step.specs.Spelling.{SnapshotHead, head_of}
-use Rattle.cp_step.specs.Persistent.{PersistentState, ballot, has_term, ballot_part, with_snapshot}
+use Rattle.cp_step.specs.Persistent.{PersistentState, ballot, has_term, with_snapshot}
 use Rattle.cp_step.specs.Volatile.{VolatileState}
-use Rattle.cp_step.specs.Local.{SnapshotReply, LocalStep, does, reply, send}
+use Rattle.cp_step.specs.Local.{SnapshotReply, does, reply, send}
 use Rattle.cp_step.specs.Terms.{adopted}
 use Rattle.cp_step.specs.Appends.{following}
-use Rattle.cp_step.specs.Snapshots.{received_of, joined, Progress, Apart, TooLong, More, Whole, progress_of, progress, answers, receives, installs, takes_chunk, on_snapshot}
+use Rattle.cp_step.specs.Snapshots.{received_of, joined, Progress, Apart, TooLong, More, Whole, progress_of, progress, answers, installs, takes_chunk, on_snapshot}
 use Rattle.cp_step_facts.specs.Seen.{tracked_member, head_term, head_members}
-use Rattle.cp_step_facts.proofs.Basics.{either, from_not, follower_or_leader, follower_or_candidate, one}
+use Rattle.cp_step_facts.proofs.Basics.{either, follower_or_leader, follower_or_candidate, one}
 use Rattle.cp_step_facts.proofs.Knowing.{has_known, known_has}
 use Rattle.cp_step_facts.proofs.Turns.{Turn, got, here, core, Truth, Receives, Left, Good}
-use Rattle.cp_step_facts.proofs.Quiet.{with_ballot, after_ballot, adopting, adopted_term, calm_low, silent, takes_ballot}
+use Rattle.cp_step_facts.proofs.Quiet.{with_ballot, adopting, adopted_term, calm_low, silent, takes_ballot}
 use Rattle.cp_step_facts.proofs.Votes.{plain}
 
 module _ (t : Turn) (from term index offset : ℕ) (is_last : Bool) (bytes : List ℕ) (came_is : t.came ≡ Some (Chunk from term index offset is_last bytes)) (low : t.p.term ≤ term) where

@@ -1,11 +1,9 @@
 -- Every rule, and so every step, is shown good.
-use Rattle.std.proofs.Common.{◌≡◌, ℕ, Bool, true, false, List, refl, ap, sym, ◌∙◌, Option, Some, None}
+use Rattle.std.proofs.Common.{◌≡◌, ℕ, true, false, ap, Some}
 use Rattle.cp_rules.specs.Clusters as cluster
 use Rattle.cp_rules.specs.Clusters.{Message}
-use Rattle.cp_safety.specs.Chunks.{Wire, AsItIs, seen_got}
-use Rattle.cp_step.specs.Local.{Body, PreVote, PreVoteReply, Vote, VoteReply, Append, AppendReply, Snapshot, SnapshotReply, Confirm, Confirmed, Event, Tick, Got, Propose, ChangeMembers, Read, send, does, LocalStep, is_leader}
-use Rattle.cp_answers.specs.declared.refusal.Refusal.TheVariants.{NotLeader, Overloaded}
-use Rattle.cp_base.specs.declared.identifier.Invocation.{Invocation}
+use Rattle.cp_safety.specs.Chunks.{AsItIs, seen_got}
+use Rattle.cp_step.specs.Local.{Body, PreVote, PreVoteReply, Vote, VoteReply, Append, AppendReply, Snapshot, SnapshotReply, Confirm, Confirmed, Event, Tick, Got, Propose, ChangeMembers, Read}
 use Rattle.cp_step.specs.Steps.{on_message, rule, step}
 use Rattle.cp_step_facts.specs.Seen.{wire, came_with}
 use Rattle.cp_step_facts.specs.Soundness.{IsFair}

@@ -1,18 +1,18 @@
 -- A tick, and what comes after each rule: a snapshot of the member's own, a beat, and the reads that are settled.
-use Rattle.std.proofs.Common.{◌||◌, ◌&&◌, ◌==◌, ◌≡◌, ◌≢◌, ℕ, zero, suc, ◌+◌, ◌-◌, ◌<◌, ◌≤◌, ◌⊎◌, inl, inr, ⊎_elim, not, Bool, true, false, List, [], ◌∷◌, ◌++◌, length, take, drop, map, filter, refl, ap, sym, ◌∙◌, arith, subst, Option, Some, None, is_none, All, nat_lt, nat_le, le_refl, le_of_eq, true≢false, if◌then◌else◌}
+use Rattle.std.proofs.Common.{◌||◌, ◌&&◌, ◌==◌, ◌≡◌, ℕ, suc, ◌-◌, ◌⊎◌, inl, inr, ⊎_elim, not, Bool, true, false, List, [], ◌∷◌, ◌++◌, length, take, drop, map, filter, refl, ap, sym, ◌∙◌, arith, subst, Option, Some, None, is_none, All, nat_lt, nat_le, le_refl, true≢false, if◌then◌else◌}
 use Rattle.std.proofs.lemmas.Bool.{eqb-true, and_parts}
 use Rattle.std.proofs.lemmas.List.{length-drop}
 use Rattle.std.proofs.lemmas.List.Elements.{All-nil, All-cons, All-head, All-tail}
 use Rattle.cp_rules.specs.Entries.{members_in}
-use Rattle.cp_rules.specs.Facts.{TakesSnapshot, configuration_of}
-use Rattle.cp_safety.specs.Tracking.{untracked, untracked_cluster, uncut_step, MatchedUpto, WinsByVotes, WinsAlone, StaysCandidate, BecomesCandidate, TrackedFacts}
+use Rattle.cp_rules.specs.Facts.{configuration_of}
+use Rattle.cp_safety.specs.Tracking.{untracked, MatchedUpto, WinsByVotes, WinsAlone, StaysCandidate, BecomesCandidate, TrackedFacts}
 use Rattle.cp_step.specs.declared.ballot.Ballot.{Ballot}
 use Rattle.cp_step.specs.declared.role.Role.{Role}
-use Rattle.cp_step.specs.declared.role.Role.TheVariants.{PreCandidate, Candidate, Leader}
+use Rattle.cp_step.specs.declared.role.Role.TheVariants.{PreCandidate, Leader}
 use Rattle.cp_step.specs.Limits.{beat_period, most_index, most_snapshot}
 use Rattle.cp_step.specs.Spelling.{empty_entry, snapshot_bytes}
 use Rattle.cp_step.specs.Persistent.{PersistentState, Part, SnapshotPart, ballot, last_index, log_end, known_term, configuration_at, members, is_member, others, with_part, after_part}
-use Rattle.cp_step.specs.Volatile.{Look, Reads, VolatileState, no_reads, no_votes, new_peer, peer, silence}
+use Rattle.cp_step.specs.Volatile.{Reads, VolatileState, no_reads, no_votes, new_peer, peer, silence}
 use Rattle.cp_step.specs.Local.{PreVote, Confirm, Sent, LocalStep, does, send, is_leader}
 use Rattle.cp_step.specs.Sending.{appends}
 use Rattle.cp_step.specs.Leadership.{created_part, leading, takes_leadership}
@@ -22,14 +22,14 @@ use Rattle.cp_step.specs.Snapshots.{own_head, from_start, writes_snapshot, own_s
 use Rattle.cp_step.specs.Confirming.{confirms, is_ready, settles}
 use Rattle.cp_step.specs.Ticks.{expires, is_proposed, confirms_again, beats, on_tick}
 use Rattle.cp_step_facts.specs.Seen.{seen_role, tracked_member}
-use Rattle.cp_step_facts.specs.Soundness.{IsSound, IsPlaced, ReadsBack, IsSnapshotDue}
-use Rattle.cp_step_facts.proofs.Basics.{either, from_not, none_is, leader_is, mapped_place, all_mapped}
+use Rattle.cp_step_facts.specs.Soundness.{IsPlaced, ReadsBack, IsSnapshotDue}
+use Rattle.cp_step_facts.proofs.Basics.{either, from_not, leader_is, mapped_place, all_mapped}
 use Rattle.cp_step_facts.proofs.Knowing.{knows_has, knows_at, configured_members, members_are, quorum_is}
 use Rattle.cp_step_facts.proofs.Turns.{Turn, here, core, Truth, Left, Good}
 use Rattle.cp_step_facts.proofs.Quiet.{Calm, rests, quiet_low, stays}
-use Rattle.cp_step_facts.proofs.Commits.{sends_all, created, creates_good}
+use Rattle.cp_step_facts.proofs.Commits.{sends_all, creates_good}
 use Rattle.cp_step_facts.proofs.Elections.{alone, leadership}
-use Rattle.cp_step_facts.proofs.Changes.{leads_if, plain_entry}
+use Rattle.cp_step_facts.proofs.Changes.{plain_entry}
 
 -- ---- what agreement does not see
 
@@ -224,11 +224,11 @@ module _ (t : Turn) (clock : ℕ) (may_write : Bool) (machine : Option (List ℕ
   times_out_good : Ends (times_out t.me t.p ticked may_write)
   times_out_good =
       let may = may_stand t.me (members t.p) t.p.term (last_index t.p) (silence ticked) in
-      let office = takes_leadership t.me t.p (record ticked { heard = clock }) (suc t.p.term) in
-      either Ends (not may) (does None ticked []) (if length (members t.p) == 1 then (if may_write then office else does None ticked []) else stands t.me t.p ticked)
+      let taking = takes_leadership t.me t.p (record ticked { heard = clock }) (suc t.p.term) in
+      either Ends (not may) (does None ticked []) (if length (members t.p) == 1 then (if may_write then taking else does None ticked []) else stands t.me t.p ticked)
       (λ h. nothing_due)
-      (λ h. either Ends (length (members t.p) == 1) (if may_write then office else does None ticked []) (stands t.me t.p ticked)
-      (λ one. either Ends may_write office (does None ticked []) (λ w. alone_good (eqb-true (length (members t.p)) 1 one) (from_not may h)) (λ w. nothing_due))
+      (λ h. either Ends (length (members t.p) == 1) (if may_write then taking else does None ticked []) (stands t.me t.p ticked)
+      (λ one. either Ends may_write taking (does None ticked []) (λ w. alone_good (eqb-true (length (members t.p)) 1 one) (from_not may h)) (λ w. nothing_due))
       (λ more. stands_good))
 
   pub tick_good : (expiry : Option (List ℕ)) → ((entry : List ℕ) → expiry ≡ Some entry → members_in entry ≡ None) → Good t (on_tick t.me t.p t.v clock may_write expiry machine)

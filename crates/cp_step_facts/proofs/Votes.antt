@@ -1,5 +1,5 @@
 -- Pre-votes, votes and confirmations of leadership.
-use Rattle.std.proofs.Common.{◌||◌, ◌&&◌, ◌==◌, ◌≡◌, ◌≢◌, ℕ, suc, ◌<◌, ◌≤◌, ◌⊎◌, inl, inr, ⊎_elim, Bool, true, false, List, [], ◌∷◌, refl, ap, sym, ◌∙◌, arith, subst, Option, Some, None, All, nat_lt, nat_le, ltb-true, if◌then◌else◌}
+use Rattle.std.proofs.Common.{◌||◌, ◌&&◌, ◌==◌, ◌≡◌, ℕ, ◌⊎◌, inl, inr, ⊎_elim, Bool, true, false, [], ◌∷◌, refl, ap, sym, ◌∙◌, Some, None, nat_lt, ltb-true, if◌then◌else◌}
 use Rattle.std.proofs.lemmas.Bool.{or_cases, eqb-true, and_parts}
 use Rattle.std.proofs.lemmas.List.Elements.{All-nil}
 use Rattle.cp_rules.specs.Clusters as cluster

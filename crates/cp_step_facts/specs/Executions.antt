@@ -1,6 +1,5 @@
 -- Executions of one group whose members take local steps, with each message that they send, and with crashes at any moment.
-use Rattle.std.specs.Prelude.{◌≡◌, ◌≢◌, ℕ, Bool, true, false, List, [], ◌∷◌, ◌++◌, map, Option, Some, None, Contains, if◌then◌else◌}
-use Rattle.cp_rules.specs.Clusters as cluster
+use Rattle.std.specs.Prelude.{◌≡◌, ◌≢◌, ℕ, Bool, List, [], ◌∷◌, ◌++◌, map, Option, Some, Contains, if◌then◌else◌}
 use Rattle.cp_rules.specs.Clusters.{Step, put, cluster_after}
 use Rattle.cp_rules.specs.Facts.{MeetsFacts}
 use Rattle.cp_safety.specs.Tracking.{untracked}

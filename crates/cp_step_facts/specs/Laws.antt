@@ -1,5 +1,5 @@
 -- Local steps meet the facts of agreement.
-use Rattle.std.specs.Prelude.{◌≡◌, ◌≢◌, ℕ, Bool, Option, Some, None, Contains}
+use Rattle.std.specs.Prelude.{◌≡◌, ℕ, Bool, Option, Some, Contains}
 use Rattle.cp_safety.specs.Chunks.{ChunkedCluster, ChunkedFacts, Wire}
 use Rattle.cp_step.specs.Persistent.{PersistentState, after_part}
 use Rattle.cp_step.specs.Volatile.{VolatileState, started}

@@ -7,7 +7,7 @@ use Rattle.cp_safety.specs.Chunks as chunks
 use Rattle.cp_safety.specs.Chunks.{SnapshotReader, ChunkedMember, ChunkedStep, Wire, AsItIs, Chunk}
 use Rattle.cp_step.specs.declared.role.Role.{Role}
 use Rattle.cp_step.specs.declared.role.Role.TheVariants.{Follower, PreCandidate, Candidate, Leader}
-use Rattle.cp_step.specs.Spelling.{Configuration, SnapshotHead, head_of}
+use Rattle.cp_step.specs.Spelling.{SnapshotHead, head_of}
 use Rattle.cp_step.specs.Persistent.{PersistentState, after_part}
 use Rattle.cp_step.specs.Volatile.{Received, VolatileState, has_voted, peer}
 use Rattle.cp_step.specs.Local.{Body, PreVote, PreVoteReply, Vote, VoteReply, Append, AppendReply, Snapshot, SnapshotReply, Confirm, Confirmed, Sent, Event, Tick, Got, Propose, ChangeMembers, Read, LocalStep, does}

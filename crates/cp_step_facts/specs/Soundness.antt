@@ -1,5 +1,5 @@
 -- What holds of each member at each moment, by its own steps alone, and what its surroundings see to.
-use Rattle.std.specs.Prelude.{◌≡◌, ◌≢◌, ℕ, suc, ◌<◌, ◌≤◌, List, length, Option, Some, None}
+use Rattle.std.specs.Prelude.{◌≡◌, ◌≢◌, ℕ, suc, ◌<◌, ◌≤◌, List, length, Some, None}
 use Rattle.cp_base.specs.declared.identifier.Invocation.{Invocation}
 use Rattle.cp_rules.specs.Entries.{members_in}
 use Rattle.cp_step.specs.declared.peer.Peer.{Peer}
