@@ -45,115 +45,149 @@ fn numbers(alloc: Global, waiters: &[Waiter]) -> Result<Vec<u64>, Fail> {
 /// Six waiters: on lock `a`, on sem `a`, lock `b`, lock `a`, sem `a`, sem `a`.
 fn six(alloc: Global) -> Result<Items<Waiter>, Fail> {
     let mut rows = Items::new(alloc);
-    rows.push(waiter(alloc, call(1, 10), Kind::Lock, b"a", 3, Wish::NoLimit)?)?;
-    rows.push(waiter(alloc, call(2, 11), Kind::Sem, b"a", 2, Wish::Within(5))?)?;
-    rows.push(waiter(alloc, call(3, 12), Kind::Lock, b"b", 3, Wish::NoLimit)?)?;
-    rows.push(waiter(alloc, call(1, 13), Kind::Lock, b"a", 7, Wish::Within(9))?)?;
-    rows.push(waiter(alloc, call(4, 14), Kind::Sem, b"a", 4, Wish::NoLimit)?)?;
-    rows.push(waiter(alloc, call(5, 15), Kind::Sem, b"a", 1, Wish::NoLimit)?)?;
+    for (thread, number, kind, name, session, wish) in [
+        (1, 10, Kind::Lock, b"a", 3, Wish::NoLimit),
+        (2, 11, Kind::Sem, b"a", 2, Wish::Within(5)),
+        (3, 12, Kind::Lock, b"b", 3, Wish::NoLimit),
+        (1, 13, Kind::Lock, b"a", 7, Wish::Within(9)),
+        (4, 14, Kind::Sem, b"a", 4, Wish::NoLimit),
+        (5, 15, Kind::Sem, b"a", 1, Wish::NoLimit),
+    ] {
+        let next = waiter(alloc, call(thread, number), kind, name, session, wish)?;
+        rows.push(next)?;
+    }
     Ok(rows)
 }
 
-#[test]
-fn waiters_are_found_in_order(rt: HostRuntime) -> Result<(), Fail> {
-    let alloc = rt.alloc();
-    let a = Name::read(alloc, b"a")?;
+/// The table of the six.
+fn table(alloc: Global) -> Result<Waits, Fail> {
     let waits = Waits::from_rows(alloc, six(alloc)?)?;
+    Ok(waits)
+}
+
+#[test]
+fn calls_stand(rt: HostRuntime) -> Result<(), Fail> {
+    let waits = table(rt.alloc())?;
     assert_eq!(rt; waits.len(), 6);
     assert!(rt; waits.stands(&call(3, 12)));
     assert!(rt; !waits.stands(&call(3, 13)));
-    assert_eq!(rt;
-        waits.first(Kind::Sem, &a).map(|waiter| waiter.call.number),
-        Some(11)
-    );
-    let on_lock = waits.on_object(Kind::Lock, &a)?;
-    assert_eq!(rt;
-        numbers(alloc, on_lock.as_slice())?.as_slice(),
-        [10, 13].as_slice()
-    );
-    let served = waits.served(Kind::Sem, &a, 6)?;
-    assert_eq!(rt;
-        numbers(alloc, served.as_slice())?.as_slice(),
-        [11, 14].as_slice()
-    );
-    let blocked = waits.served(Kind::Sem, &a, 3)?;
-    assert_eq!(rt;
-        numbers(alloc, blocked.as_slice())?.as_slice(),
-        [11].as_slice()
-    );
-    let older = waits.older(&call(1, 13))?;
-    assert_eq!(rt;
-        numbers(alloc, older.as_slice())?.as_slice(),
-        [10].as_slice()
-    );
-    let one = waits.of_sessions(&[3])?;
-    assert_eq!(rt;
-        numbers(alloc, one.as_slice())?.as_slice(),
-        [10, 12].as_slice()
-    );
-    let two = waits.of_sessions(&[7, 3])?;
-    assert_eq!(rt;
-        numbers(alloc, two.as_slice())?.as_slice(),
-        [10, 12, 13].as_slice()
-    );
-    assert_eq!(rt; waits.limited_len(), 2);
-    assert_eq!(rt; waits.limited(1).map(|waiter| waiter.call.number), Some(13));
-    assert!(rt; waits.limited(2).is_none());
     Ok(())
 }
 
 #[test]
-fn waiters_leave(rt: HostRuntime) -> Result<(), Fail> {
-    let alloc = rt.alloc();
-    let a = Name::read(alloc, b"a")?;
-    let mut waits = Waits::from_rows(alloc, six(alloc)?)?;
-    assert!(rt; waits.leave(&call(9, 9)).is_none());
-    assert_eq!(rt;
-        waits.leave(&call(2, 11)).map(|waiter| waiter.permits),
-        Some(2)
-    );
-    assert_eq!(rt;
-        waits.first(Kind::Sem, &a).map(|waiter| waiter.call.number),
-        Some(14)
-    );
+fn the_first_on_an_object_is_found(rt: HostRuntime) -> Result<(), Fail> {
+    let name = Name::read(rt.alloc(), b"a")?;
+    let waits = table(rt.alloc())?;
+    let first = waits.first(Kind::Sem, &name);
+    assert_eq!(rt; first.map(|waiter| waiter.call.number), Some(11));
+    Ok(())
+}
+
+#[test]
+fn waiters_on_an_object_are_in_order(rt: HostRuntime) -> Result<(), Fail> {
+    let name = Name::read(rt.alloc(), b"a")?;
+    let found = table(rt.alloc())?.on_object(Kind::Lock, &name)?;
+    let numbers = numbers(rt.alloc(), found.as_slice())?;
+    assert_eq!(rt; numbers.as_slice(), [10, 13].as_slice());
+    Ok(())
+}
+
+#[test]
+fn nobody_is_served_past_another(rt: HostRuntime) -> Result<(), Fail> {
+    let name = Name::read(rt.alloc(), b"a")?;
+    let found = table(rt.alloc())?.served(Kind::Sem, &name, 3)?;
+    let numbers = numbers(rt.alloc(), found.as_slice())?;
+    assert_eq!(rt; numbers.as_slice(), [11].as_slice());
+    Ok(())
+}
+
+#[test]
+fn older_waiters_of_a_thread_are_found(rt: HostRuntime) -> Result<(), Fail> {
+    let found = table(rt.alloc())?.older(&call(1, 13))?;
+    let numbers = numbers(rt.alloc(), found.as_slice())?;
+    assert_eq!(rt; numbers.as_slice(), [10].as_slice());
+    Ok(())
+}
+
+#[test]
+fn waiters_of_sessions_are_found(rt: HostRuntime) -> Result<(), Fail> {
+    let found = table(rt.alloc())?.of_sessions(&[7, 3])?;
+    let numbers = numbers(rt.alloc(), found.as_slice())?;
+    assert_eq!(rt; numbers.as_slice(), [10, 12, 13].as_slice());
+    Ok(())
+}
+
+#[test]
+fn waits_with_a_limit_are_counted(rt: HostRuntime) -> Result<(), Fail> {
+    let waits = table(rt.alloc())?;
+    assert_eq!(rt; waits.limited_len(), 2);
+    let second = waits.limited(1);
+    assert_eq!(rt; second.map(|waiter| waiter.call.number), Some(13));
+    Ok(())
+}
+
+#[test]
+fn a_waiter_leaves(rt: HostRuntime) -> Result<(), Fail> {
+    let mut waits = table(rt.alloc())?;
+    let gone = waits.leave(&call(2, 11));
+    assert_eq!(rt; gone.map(|waiter| waiter.permits), Some(2));
     assert_eq!(rt; waits.limited_len(), 1);
-    let locks = waits.on_object(Kind::Lock, &a)?;
-    waits.end(locks.as_slice());
+    Ok(())
+}
+
+#[test]
+fn waiters_end(rt: HostRuntime) -> Result<(), Fail> {
+    let mut waits = table(rt.alloc())?;
+    let ended = waits.of_sessions(&[3])?;
+    waits.end(ended.as_slice());
     let left = waits.all()?;
-    assert_eq!(rt;
-        numbers(alloc, left.as_slice())?.as_slice(),
-        [12, 14, 15].as_slice()
-    );
-    assert!(rt; waits.first(Kind::Lock, &a).is_none());
+    let numbers = numbers(rt.alloc(), left.as_slice())?;
+    assert_eq!(rt; numbers.as_slice(), [11, 13, 14, 15].as_slice());
     Ok(())
 }
 
 #[test]
 fn a_call_waits_once(rt: HostRuntime) -> Result<(), Fail> {
-    let alloc = rt.alloc();
-    let mut rows = six(alloc)?;
-    rows.push(waiter(alloc, call(3, 12), Kind::Jsem, b"c", 0, Wish::NoLimit)?)?;
-    assert_eq!(rt;
-        Waits::from_rows(alloc, rows).err(),
-        Some(RowsError::Repeated)
-    );
+    let mut rows = six(rt.alloc())?;
+    rows.push(waiter(rt.alloc(), call(3, 12), Kind::Jsem, b"c", 0, Wish::NoLimit)?)?;
+    let waits = Waits::from_rows(rt.alloc(), rows);
+    assert_eq!(rt; waits.err(), Some(RowsError::Repeated));
     Ok(())
+}
+
+/// A waiter on lock `a`, unless it stands.
+fn join_if_new(waits: &mut Waits, waiter: Waiter) -> Result<(), WaitError> {
+    if waits.stands(&waiter.call) {
+        return Ok(());
+    }
+    waits.join(waiter)
 }
 
 #[test]
 fn ten_thousand_wait(rt: HostRuntime) -> Result<(), Fail> {
-    let alloc = rt.alloc();
-    let mut waits = Waits::new(alloc)?;
+    let mut waits = Waits::new(rt.alloc())?;
     for number in 0..10000 {
-        let next = waiter(alloc, call(1, number), Kind::Lock, b"a", 1, Wish::NoLimit)?;
-        assert!(rt; !waits.stands(&next.call));
-        waits.join(next)?;
+        let next = waiter(
+            rt.alloc(),
+            call(1, number),
+            Kind::Lock,
+            b"a",
+            1,
+            Wish::NoLimit,
+        )?;
+        join_if_new(&mut waits, next)?;
     }
-    let last = waiter(alloc, call(1, 10000), Kind::Lock, b"a", 1, Wish::NoLimit)?;
-    assert!(rt; !waits.stands(&last.call));
-    assert_eq!(rt; waits.join(last), Err(WaitError::TableFull(10000)));
-    let all = waits.all()?;
-    waits.end(all.as_slice());
-    assert_eq!(rt; waits.len(), 0);
+    let last = waiter(
+        rt.alloc(),
+        call(1, 10000),
+        Kind::Lock,
+        b"a",
+        1,
+        Wish::NoLimit,
+    )?;
+    assert_eq!(rt;
+        join_if_new(&mut waits, last),
+        Err(WaitError::TableFull(10000))
+    );
     Ok(())
 }
