@@ -1,25 +1,27 @@
 -- What a call does to the row of a latch that is there is done to the rows.
-use Rattle.std.proofs.Common.{◌≡◌, ℕ, ◌+◌, ◌<◌, Bool, true, false, not, ◌||◌, List, [], Some, None, refl, ap, sym, ◌∙◌, arith, length}
+use Rattle.std.proofs.Common.{◌≡◌, ℕ, ◌+◌, ◌<◌, Bool, true, false, not, ◌||◌, List, [], Some, None, ◌∷◌, ◌++◌, ◌≤◌, ◌^◌, refl, ap, sym, ◌∙◌, subst, append_assoc, arith, length}
 use Rattle.std.specs.Prelude.{◌==◌, nat_lt, is_some, Result, Ok, Err, OnErr, IfOk}
 use Rattle.std.specs.BTreeMap.{is_at}
 use Rattle.std.specs.Map as map
+use Rattle.std.specs.Map.{keys_of}
+use Rattle.std.specs.List.Sorted.{IsStrictlySortedBy}
 use Rattle.std.proofs.lemmas.Map.Steps.{set_value_same}
 use Rattle.std.proofs.lemmas.Bool.Decides.{nat_tests}
-use Rattle.std.proofs.lemmas.List.Folds.{list_any-append}
+use Rattle.std.proofs.lemmas.List.Elements.{All-head, All-tail, All-cons, All-nil}
 use Rattle.std.proofs.lemmas.Cmp.{nat_list_cmp_total}
 use Rattle.std.proofs.lemmas.List.{length-append}
 use Rattle.cp_ops_next.specs.declared.answer.Answer.TheVariants as answer
 use Rattle.cp_base.specs.declared.identifier.Invocation.{Invocation}
 use Rattle.cp_group_state.specs.Rows.{Named, find, put, most, name_cmp}
 use Rattle.cp_group_state.specs.Invariants.{IsRising}
-use Rattle.cp_group_state.specs.Latches.{LatchStep, Done, set_latch, or_new, latch_at, new_latch, counted_calls, next_round, counted_down, is_over, is_counted}
+use Rattle.cp_group_state.specs.Latches.{Done, set_latch, or_new, latch_at, new_latch, counted_calls, next_round, counted_down, is_over, is_counted}
 use Rattle.cp_group_state.specs.declared.rows.LatchRow.{LatchRow}
 use Rattle.cp_latch.specs.declared.rounds.Begun.{Begun}
 use Rattle.cp_latch.specs.declared.rounds.Begun.TheVariants as begun
 use Rattle.cp_latch.specs.declared.rounds.Down.{Down}
 use Rattle.cp_latch.specs.declared.rounds.Down.TheVariants as down
-use Rattle.cp_latch.specs.Rounds.{with_row, IsBegun, IsBegunIn, IsDown, IsDownIn}
-use Rattle.cp_rows.proofs.Changes.{put_there}
+use Rattle.cp_latch.specs.Rounds.{AreRounds, with_row, IsBegun, IsBegunIn, IsDown, IsDownIn}
+use Rattle.cp_rows.proofs.Changes.{put_there, rises_one}
 use Rattle.cp_latch.proofs.Totals.{calls_written, same_total}
 
 -- the row under a name, and the rows with another one written there
@@ -79,3 +81,20 @@ made rows next name copy row absent few fresh same put_in =
     let room : nat_lt (length rows) most ≡ true = grind (arith, nat_tests) in
     let here : next ≡ put name_cmp rows name row = put_in ∙ ap (λ k. put name_cmp rows k row) same in
     (here ∙ rw (absent, room) refl, rw (absent, room) refl, same_total rows next name row absent fresh here)
+
+-- the first row to come goes behind those that stand
+pub goes_behind : (stand next left rest rows : Named LatchRow) (e : List ℕ × LatchRow) → next ≡ stand ++ e ∷ [] → left ≡ e ∷ rest → stand ++ left ≡ rows → next ++ rest ≡ rows
+goes_behind stand next left rest rows e put_in first all = ap (λ (r : Named LatchRow). r ++ rest) put_in ∙ append_assoc stand (e ∷ []) rest ∙ ap (λ (r : Named LatchRow). stand ++ r) (sym first) ∙ all
+
+pub first_round_fits : (left rest : Named LatchRow) (e : List ℕ × LatchRow) → AreRounds left → left ≡ e ∷ rest → e.1.round ≤ 2 ^ 62
+first_round_fits left rest e fit first = All-head (λ (x : List ℕ × LatchRow). x.1.round ≤ 2 ^ 62) e rest (subst (λ r. AreRounds r) first fit)
+
+pub other_rounds_fit : (left rest : Named LatchRow) (e : List ℕ × LatchRow) → AreRounds left → left ≡ e ∷ rest → AreRounds rest
+other_rounds_fit left rest e fit first = All-tail (λ (x : List ℕ × LatchRow). x.1.round ≤ 2 ^ 62) e rest (subst (λ r. AreRounds r) first fit)
+
+-- one row rises
+pub one_rises : (rows : Named LatchRow) (e : List ℕ × LatchRow) → rows ≡ e ∷ [] → IsStrictlySortedBy name_cmp (keys_of rows)
+one_rises rows e one = rises_one name_cmp [] rows e refl one
+
+pub one_fits : (rows : Named LatchRow) (e : List ℕ × LatchRow) → rows ≡ e ∷ [] → e.1.round ≤ 2 ^ 62 → AreRounds rows
+one_fits rows e one fits = subst (λ r. AreRounds r) (sym one) (All-cons (λ (x : List ℕ × LatchRow). x.1.round ≤ 2 ^ 62) e [] fits (All-nil (λ (x : List ℕ × LatchRow). x.1.round ≤ 2 ^ 62)))

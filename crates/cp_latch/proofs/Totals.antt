@@ -1,16 +1,15 @@
 -- How many calls are counted in all, after a change of one row.
-use Rattle.std.proofs.Common.{◌≡◌, ℕ, ◌+◌, ◌-◌, ◌<◌, ◌≤◌, Bool, true, false, not, ◌||◌, List, [], ◌∷◌, Option, Some, None, refl, ap, sym, ◌∙◌, cond, arith, length}
+use Rattle.std.proofs.Common.{◌≡◌, ℕ, ◌+◌, ◌-◌, ◌<◌, ◌≤◌, Bool, true, false, not, ◌||◌, List, [], ◌∷◌, Some, None, refl, ap, sym, cond, arith, length}
 use Rattle.std.specs.Prelude.{◌==◌, map}
 use Rattle.std.specs.declared.cmp.Ordering.{Ordering}
 use Rattle.std.specs.declared.cmp.Ordering.TheVariants.{Less, Equal, Greater}
 use Rattle.std.specs.Ordering.{match_ordering, is_eq}
-use Rattle.std.specs.BTreeMap.{is_at}
 use Rattle.std.specs.Map as map
 use Rattle.std.proofs.lemmas.Bool.Decides.{nat_tests}
 use Rattle.std.proofs.lemmas.List.Sums.{sum_by-cons}
 use Rattle.cp_base.specs.declared.identifier.Invocation.{Invocation}
-use Rattle.cp_group_state.specs.Rows.{Named, find, put, without, name_cmp}
-use Rattle.cp_group_state.specs.Latches.{latch_at, counted_calls, next_round, counted_down, is_over, is_counted}
+use Rattle.cp_group_state.specs.Rows.{Named, find, put, name_cmp}
+use Rattle.cp_group_state.specs.Latches.{counted_calls, is_over, is_counted}
 use Rattle.cp_group_state.specs.declared.rows.LatchRow.{LatchRow}
 
 abbrev calls : LatchRow → ℕ
@@ -73,3 +72,7 @@ goes_on call round row h = by (not (round == row.round)) (row.count == 0) (is_co
   by true b c e h = cc
   by false true c e h = cc
   by false false c e h = grind (arith, nat_tests)
+
+-- the calls of the first row, and those of the others
+pub first_counted : (total next before : ℕ) (e : List ℕ × LatchRow) (rest : Named LatchRow) → total + counted_calls (e ∷ rest) ≡ before → next ≡ total + calls e.1 → next + counted_calls rest ≡ before
+first_counted total next before e rest all more = omega (arith, head e rest, all, more)

@@ -56,7 +56,11 @@ impl Latch {
         requires { row.round ≤ 2 ^ 62 }
         ensures { IfOk result (λ latch. latch ≡ row) }
     {
-        let LatchRow { round, count, counted } = row;
+        let LatchRow {
+            round,
+            count,
+            counted,
+        } = row;
         Ok(Latch {
             round,
             count,

@@ -1,10 +1,11 @@
 //! The table of the latches of a group.
-ghost use Rattle.std.specs.Prelude.{◌≡◌, ◌≤◌, ◌^◌, ◌==◌, [], true, All, IfOk, OnOk, OnErr, IfSome, if◌then◌else◌};
+ghost use Rattle.std.specs.Prelude.{◌≡◌, ◌≤◌, ◌^◌, ◌==◌, [], ◌∷◌, ◌++◌, true, IfOk, OnOk, OnErr, IfSome, if◌then◌else◌};
 ghost use Rattle.cp_ops_next.specs.declared.answer.Answer.TheVariants as answer;
 ghost use Rattle.cp_group_state.specs.Rows.{without, name_cmp};
 ghost use Rattle.cp_group_state.specs.Invariants.{IsRising};
 ghost use Rattle.cp_group_state.specs.Latches.{Done, Wants, Opened, counted_calls, latch_at, set_latch, count_down, latch_step};
 ghost use Rattle.cp_latch.specs.Outcomes.{IsOutcome};
+ghost use Rattle.cp_latch.specs.Rounds.{AreRounds};
 
 use crate::Latch;
 use crate::rounds::{Begun, Down, begin_in, down_in, first_round, make_row};
@@ -112,6 +113,50 @@ fn outcome_of(opens: bool) -> LatchOutcome
     }
 }
 
+/// How many calls are counted in these rows, if a number holds it.
+#[tactic(auto, using(crate::proofs::Totals::first_counted))]
+fn total_of(rows: &[(Name, LatchRow)]) -> Option<usize>
+    ensures { IfSome result (λ total. total ≡ counted_calls rows.now) }
+{
+    let mut total: usize = 0;
+    let mut rest = rows;
+    while let [row, after @ ..] = rest {
+        total = total.checked_add(row.1.counted.len())?;
+        rest = after;
+    }
+    Some(total)
+}
+
+/// Puts the latch of a row behind others.
+fn add(
+    alloc: Global,
+    latches: &mut Items<(Name, Latch)>,
+    name: Name,
+    row: LatchRow,
+) -> Result<(), NoMemory>
+    requires { row.round ≤ 2 ^ 62 }
+    ensures { OnOk result (latches.new ≡ latches.old ++ (name, row) ∷ []) }
+{
+    let latch = Latch::from_row(alloc, row)?;
+    latches.push((name, latch))?;
+    Ok(())
+}
+
+/// The latches of these rows.
+fn latches_of(
+    alloc: Global,
+    rows: Items<(Name, LatchRow)>,
+) -> Result<Items<(Name, Latch)>, NoMemory>
+    requires { AreRounds rows }
+    ensures { IfOk result (λ latches. latches ≡ rows) }
+{
+    let mut latches = Items::new(alloc);
+    for (name, row) in rows.into_vec() {
+        add(alloc, &mut latches, name, row)?;
+    }
+    Ok(latches)
+}
+
 /// What an await leads to.
 fn awaited(count: u32) -> LatchOutcome
     ensures { IsOutcome result (if count == 0 then Done (answer.Bool true) else Wants) }
@@ -131,6 +176,23 @@ impl Latches {
         Ok(Latches {
             rows: BTreeMap::new(alloc),
             total: 0,
+            alloc,
+        })
+    }
+
+    /// The table of these rows, by rising name.
+    pub fn from_rows(alloc: Global, rows: Items<(Name, LatchRow)>) -> Result<Latches, NoMemory>
+        requires rising { IsRising name_cmp rows }
+        requires rounds { AreRounds rows }
+        ensures { IfOk result (λ latches. latches ≡ rows) }
+    {
+        let Some(total) = total_of(rows.as_slice()) else {
+            return Err(NoMemory);
+        };
+        let latches = latches_of(alloc, rows)?;
+        Ok(Latches {
+            rows: from_rows(alloc, latches)?,
+            total,
             alloc,
         })
     }
@@ -187,13 +249,7 @@ impl Latches {
                 name,
                 count,
             )?)),
-            LatchOp::Down(round) => count_down(
-                &mut self.rows,
-                &mut self.total,
-                name,
-                call,
-                round,
-            ),
+            LatchOp::Down(round) => count_down(&mut self.rows, &mut self.total, name, call, round),
         }
     }
 
