@@ -1,0 +1,13 @@
+//! The countdown latches of a group.
+#![tactic(auto)]
+
+mod counted;
+mod latch;
+mod latches;
+mod rounds;
+#[cfg(test)]
+mod tests;
+
+pub use counted::Counted;
+pub use latch::Latch;
+pub use latches::{LatchOutcome, Latches};
