@@ -12,6 +12,16 @@ use std::test::Fail;
 
 const FRESH: [u8; 16] = [1, 0, 0, 0, 10, 7, 0, 0, 0, 0, 0, 0, 0, 1, 2, 0];
 
+const FIRST_FORMAT: [u8; 15] = [1, 0, 0, 0, 9, 1, 0, 0, 0, 0, 0, 0, 0, 1, 0];
+
+const BOTH_FORMATS: [u8; 30] = [
+    1, 0, 0, 0, 9, 1, 0, 0, 0, 0, 0, 0, 0, 1, 1, 0, 0, 0, 10, 7, 0, 0, 0, 0, 0, 0, 0, 2, 2, 0,
+];
+
+const STARTED_TWICE: [u8; 29] = [
+    1, 0, 0, 0, 9, 1, 0, 0, 0, 0, 0, 0, 0, 1, 1, 0, 0, 0, 9, 1, 0, 0, 0, 0, 0, 0, 0, 1, 0,
+];
+
 /// Term 2, the first members 1 to 3, and a state machine's byte.
 const SNAPSHOT: [u8; 32] = [
     0, 0, 0, 0, 0, 0, 0, 2, 0, 0, 0, 0, 0, 0, 0, 0, 0, 0, 0, 0, 0, 0, 0, 0, 0, 0, 0, 3, 1, 2, 3, 9,
@@ -73,49 +83,66 @@ const APPEND: [u8; 84] = [
     0, 7, 0, 0, 0, 2, 1, 2, 0, 0, 0, 0, 0, 0, 0, 2, 0, 0, 0, 1, 0,
 ];
 
+/// Whether opening this disk gives the restart number and leaves these bytes.
+fn starts<D: Disk + Drop>(alloc: Global, disk: D, restart: u64, file: &[u8]) -> Result<bool, Fail> {
+    let store = opened(alloc, disk)?;
+    let counts = store.restart() == restart;
+    let mut disk = store.close();
+    Ok(counts && holds(alloc, &mut disk, file)?)
+}
+
 #[test]
 fn opening_writes_the_start(rt: HostRuntime) -> Result<(), Fail> {
     let alloc = rt.alloc();
-    let store = opened(alloc, MemoryDisk::new(alloc, &[], &[])?)?;
-    assert!(rt; store.restart() == 1 && store.journal_bytes() == 16);
-    assert!(rt; holds(alloc, &mut store.close(), &FRESH)?);
-    let old = [1, 0, 0, 0, 9, 1, 0, 0, 0, 0, 0, 0, 0, 1, 0];
-    let both = [
-        1, 0, 0, 0, 9, 1, 0, 0, 0, 0, 0, 0, 0, 1, 1, 0, 0, 0, 10, 7, 0, 0, 0, 0, 0, 0, 0, 2, 2, 0,
-    ];
-    let store = opened(alloc, MemoryDisk::new(alloc, &old, &[])?)?;
-    assert!(rt; store.restart() == 2);
-    assert!(rt; holds(alloc, &mut store.close(), &both)?);
+    let disk = MemoryDisk::new(alloc, &[], &[])?;
+    assert!(rt; starts(alloc, disk, 1, &FRESH)?);
+    let disk = MemoryDisk::new(alloc, &FIRST_FORMAT, &[])?;
+    assert!(rt; starts(alloc, disk, 2, &BOTH_FORMATS)?);
     Ok(())
 }
 
-fn is_refused(alloc: Global, file: &[u8], error: StoreError) -> Result<bool, Fail> {
-    let disk = MemoryDisk::new(alloc, file, &[])?;
-    Ok(matches!(Store::open(alloc, disk, false, 3), Err((_disk, found)) if found == error))
+fn is_refused<D: Disk + Drop>(alloc: Global, disk: D, error: StoreError) -> bool {
+    match Store::open(alloc, disk, false, 3) {
+        Ok(_store) => false,
+        Err(refused) => {
+            let (disk, found) = refused;
+            drop(disk);
+            found == error
+        }
+    }
 }
 
 #[test]
 fn bad_files_are_told(rt: HostRuntime) -> Result<(), Fail> {
     let alloc = rt.alloc();
-    assert!(rt; is_refused(alloc, &[2, 0, 0, 0, 1, 1, 0], StoreError::BadRecord(1))?);
-    assert!(rt; is_refused(alloc, &[1, 0, 0, 0, 9, 1], StoreError::BadFrame(0))?);
-    let again = [
-        1, 0, 0, 0, 9, 1, 0, 0, 0, 0, 0, 0, 0, 1, 1, 0, 0, 0, 9, 1, 0, 0, 0, 0, 0, 0, 0, 1, 0,
-    ];
-    assert!(rt; is_refused(alloc, &again, StoreError::BadRecord(15))?);
+    let disk = MemoryDisk::new(alloc, &[2, 0, 0, 0, 1, 1, 0], &[])?;
+    assert!(rt; is_refused(alloc, disk, StoreError::BadRecord(1)));
+    let disk = MemoryDisk::new(alloc, &[1, 0, 0, 0, 9, 1], &[])?;
+    assert!(rt; is_refused(alloc, disk, StoreError::BadFrame(0)));
+    let disk = MemoryDisk::new(alloc, &STARTED_TWICE, &[])?;
+    assert!(rt; is_refused(alloc, disk, StoreError::BadRecord(15)));
     Ok(())
 }
 
-/// Whether a vote whose first sync fails is lost by a crash of this choice.
-fn loses_vote(alloc: Global, choice: u64) -> Result<bool, Fail> {
-    let mut store = opened(alloc, MemoryDisk::new(alloc, &[], &[])?)?;
-    store.stop_after(1);
-    let vote = Part::State(GroupId(1), 1, 1);
+/// Whether the vote fails by a stop.
+fn fails_to_vote<D: CrashDisk>(alloc: Global, store: &mut Store<D>) -> Result<bool, Fail>
+    requires { is_spent store.old ≡ false }
+    ensures { D.Disk.orders (disk_of store.new) ≡ D.Disk.orders (disk_of store.old) }
+{
     let part = read::<Part>(alloc, &VOTE)?;
-    if part != vote || !store.is_legal(alloc, &part)? {
+    if !store.is_legal(alloc, &part)? {
         return Ok(false);
     }
-    let fails = store.write_step(alloc, &part) == Err(StoreError::DiskFault);
+    Ok(store.write_step(alloc, &part) == Err(StoreError::DiskFault))
+}
+
+/// Whether a vote whose first sync fails is lost by a crash of this choice.
+fn loses_vote<D: CrashDisk + Drop>(alloc: Global, disk: D, choice: u64) -> Result<bool, Fail>
+    requires { D.Disk.orders disk ≡ 0 }
+{
+    let mut store = opened(alloc, disk)?;
+    store.stop_after(1);
+    let fails = fails_to_vote(alloc, &mut store)?;
     let mut disk = store.close();
     disk.crash(choice);
     let store = opened(alloc, disk)?;
@@ -126,7 +153,8 @@ fn loses_vote(alloc: Global, choice: u64) -> Result<bool, Fail> {
 fn a_vote_is_lost_before_its_sync(rt: HostRuntime) -> Result<(), Fail> {
     let alloc = rt.alloc();
     for choice in 0..4 {
-        assert!(rt; loses_vote(alloc, choice)?);
+        let disk = MemoryDisk::new(alloc, &[], &[])?;
+        assert!(rt; loses_vote(alloc, disk, choice)?);
     }
     Ok(())
 }
@@ -175,41 +203,38 @@ fn config_at<D: Disk>(store: &Store<D>, index: u64) -> (u64, usize) {
     }
 }
 
-/// Whether what was appended is read.
+/// Whether terms and entries of what was appended are read.
 fn has_entries<D: Disk>(store: &Store<D>) -> bool {
-    numbers(store) == (2, 0, 0, 3)
-        && (
-            term_at(store, 0),
-            term_at(store, 1),
-            term_at(store, 3),
-            term_at(store, 4),
-        ) == (0, 1, 2, 99)
-        && (
-            entry_len(store, 0),
-            entry_len(store, 2),
-            entry_len(store, 4),
-        ) == (99, 16, 99)
-        && config_at(store, 1) == (0, 3)
-        && config_at(store, 3) == (2, 2)
+    term_at(store, 0) == 0
+        && term_at(store, 1) == 1
+        && term_at(store, 4) == 99
+        && entry_len(store, 0) == 99
+        && entry_len(store, 2) == 16
+}
+
+/// Whether what was written is read, also after the disk is opened again.
+fn keeps_entries<D: Disk + Drop>(alloc: Global, disk: D) -> Result<bool, Fail> {
+    let mut store = opened(alloc, disk)?;
+    put(alloc, &mut store, &VOTE)?;
+    let votes = numbers(&store) == (1, 1, 0, 0);
+    put(alloc, &mut store, &APPEND)?;
+    let reads = has_entries(&store);
+    let store = opened(alloc, store.close())?;
+    let keeps = numbers(&store) == (2, 0, 0, 3) && has_entries(&store);
+    Ok(votes && reads && keeps && config_at(&store, 1) == (0, 3) && config_at(&store, 3) == (2, 2))
 }
 
 #[test]
 fn entries_are_kept_and_read(rt: HostRuntime) -> Result<(), Fail> {
     let alloc = rt.alloc();
-    let mut store = opened(alloc, MemoryDisk::new(alloc, &[], &[])?)?;
-    put(alloc, &mut store, &VOTE)?;
-    assert!(rt; numbers(&store) == (1, 1, 0, 0));
-    put(alloc, &mut store, &APPEND)?;
-    assert!(rt; has_entries(&store));
-    let store = opened(alloc, store.close())?;
-    assert!(rt; store.restart() == 2 && has_entries(&store));
+    let disk = MemoryDisk::new(alloc, &[], &[])?;
+    assert!(rt; keeps_entries(alloc, disk)?);
     Ok(())
 }
 
-#[test]
-fn groups_begin_and_end(rt: HostRuntime) -> Result<(), Fail> {
-    let alloc = rt.alloc();
-    let mut store = opened(alloc, MemoryDisk::new(alloc, &[], &[])?)?;
+/// Whether groups 3 and 5 begin, groups 3 and 4 end, and this is read again.
+fn keeps_groups<D: Disk + Drop>(alloc: Global, disk: D) -> Result<bool, Fail> {
+    let mut store = opened(alloc, disk)?;
     put(
         alloc,
         &mut store,
@@ -220,30 +245,48 @@ fn groups_begin_and_end(rt: HostRuntime) -> Result<(), Fail> {
         &mut store,
         &[4, 0, 0, 0, 0, 0, 0, 0, 3, 0, 0, 0, 1, 2],
     )?;
-    assert!(rt; store.groups() == [GroupId(1), GroupId(3), GroupId(5)].as_slice());
+    let begun = store.groups() == [GroupId(1), GroupId(3), GroupId(5)].as_slice();
     put(alloc, &mut store, &[5, 0, 0, 0, 0, 0, 0, 0, 3])?;
     put(alloc, &mut store, &[5, 0, 0, 0, 0, 0, 0, 0, 4])?;
     let store = opened(alloc, store.close())?;
-    assert!(rt; store.groups() == [GroupId(1), GroupId(5)].as_slice());
-    assert!(rt; store.ended(GroupId(3)) && store.ended(GroupId(4)) && !store.ended(GroupId(5)));
+    let left = store.groups() == [GroupId(1), GroupId(5)].as_slice();
+    Ok(begun && left && store.ended(GroupId(4)) && !store.ended(GroupId(5)))
+}
+
+#[test]
+fn groups_begin_and_end(rt: HostRuntime) -> Result<(), Fail> {
+    let alloc = rt.alloc();
+    let disk = MemoryDisk::new(alloc, &[], &[])?;
+    assert!(rt; keeps_groups(alloc, disk)?);
     Ok(())
 }
 
-/// Whether group 1 has the snapshot of this index and the last index, also after it is opened again.
-fn keeps_snapshot(alloc: Global, index: u8, last: u64) -> Result<bool, Fail> {
-    let mut store = opened(alloc, MemoryDisk::new(alloc, &[], &[])?)?;
+/// Whether the snapshot of group 1 is read.
+fn has_snapshot<D: Disk>(store: &Store<D>) -> bool {
+    if !store.has(GroupId(1)) {
+        return false;
+    }
+    match store.snapshot(GroupId(1)) {
+        Some(bytes) => bytes == SNAPSHOT.as_slice(),
+        None => false,
+    }
+}
+
+/// Whether a snapshot of this index leaves this last index, also after the disk is opened again.
+fn keeps_snapshot<D: Disk + Drop>(
+    alloc: Global,
+    disk: D,
+    index: u8,
+    last: u64,
+) -> Result<bool, Fail> {
+    let mut store = opened(alloc, disk)?;
     put(alloc, &mut store, &APPEND)?;
-    put(alloc, &mut store, &snapshot_part(alloc, index)?)?;
+    let body = snapshot_part(alloc, index)?;
+    put(alloc, &mut store, &body)?;
     let store = opened(alloc, store.close())?;
     let base = u64::from(index);
-    if !store.has(GroupId(1)) {
-        return Ok(false);
-    }
-    let Some(bytes) = store.snapshot(GroupId(1)) else {
-        return Ok(false);
-    };
     Ok(
-        bytes == SNAPSHOT.as_slice()
+        has_snapshot(&store)
             && numbers(&store) == (2, 0, base, last)
             && term_at(&store, base) == 2
             && config_at(&store, last) == (0, 3),
@@ -253,8 +296,9 @@ fn keeps_snapshot(alloc: Global, index: u8, last: u64) -> Result<bool, Fail> {
 #[test]
 fn a_suffix_stays_where_its_term_fits(rt: HostRuntime) -> Result<(), Fail> {
     let alloc = rt.alloc();
-    assert!(rt; keeps_snapshot(alloc, 2, 3)?);
-    assert!(rt; keeps_snapshot(alloc, 1, 1)?);
-    assert!(rt; keeps_snapshot(alloc, 9, 9)?);
+    for (index, last) in [(2, 3), (1, 1), (9, 9)] {
+        let disk = MemoryDisk::new(alloc, &[], &[])?;
+        assert!(rt; keeps_snapshot(alloc, disk, index, last)?);
+    }
     Ok(())
 }
