@@ -1,0 +1,5 @@
+pub mod Nested
+pub mod Tables
+pub mod Outcomes
+pub mod Fitting
+pub mod Serving

@@ -1,0 +1,16 @@
+//! Semaphores: those whose permits sessions hold, and those without sessions.
+#![tactic(auto)]
+
+mod amounts;
+mod holdings;
+mod outcome;
+mod rows;
+mod semaphores;
+mod serving;
+mod steps;
+mod tables;
+#[cfg(test)]
+mod tests;
+
+pub use outcome::SemOutcome;
+pub use semaphores::Semaphores;

@@ -1,0 +1,120 @@
+//! The table of semaphores.
+ghost use Rattle.std.specs.Prelude.{◌≡◌, ◌<◌, ◌^◌, [], IfOk, OnOk, OnErr};
+ghost use Rattle.cp_group_state.specs.Semaphores.{sem_step, take_all};
+ghost use Rattle.cp_semaphore.specs.Fitting.{Fits};
+ghost use Rattle.cp_semaphore.specs.Nested.{flat};
+ghost use Rattle.cp_semaphore.specs.Outcomes.{IsOutcome, available_of};
+ghost use Rattle.cp_semaphore.specs.Serving.{AreServed};
+
+use crate::outcome::SemOutcome;
+use crate::tables::Tables;
+use crate::{rows, serving, steps};
+use cp_base::{Name, NoMemory};
+use cp_group_state::{SemaphoreRow, Waiter};
+use cp_ops::{Kind, SemOp};
+use std::alloc::Global;
+use std::collections::BTreeMap;
+use std::marker::Model;
+
+/// The semaphores of a group: their rows by name and kind, and what sessions hold, by session and name. The total of a
+/// semaphore is what stands available and what is held of it.
+#[derive(Drop)]
+pub struct Semaphores {
+    tables: Tables,
+}
+
+impl Model for Semaphores {
+    ghost use Rattle.cp_group_state.specs.Semaphores as definitions;
+    ghost use Rattle.cp_semaphore.specs.Tables.{seen, IsTable};
+
+    ghost Value = { definitions.Semaphores };
+
+    ghost view = { λ s. seen s.tables };
+
+    ghost invariant = { λ s. IsTable s.tables };
+}
+
+fn small(_number: u32)
+    ensures { _number < 2 ^ 32 }
+{}
+
+/// The numbers of an operation are of 32 bits.
+fn known(op: &SemOp)
+    ensures { Fits op.now }
+{
+    match *op {
+        SemOp::Available => {}
+        SemOp::Init(permits) => small(permits),
+        SemOp::Acquire(_session, permits, _wish) => small(permits),
+        SemOp::Release(_session, permits) => small(permits),
+        SemOp::Drain(_session) => {}
+        SemOp::Increase(_session, permits) => small(permits),
+        SemOp::Reduce(_session, permits) => small(permits),
+    }
+}
+
+impl Semaphores {
+    /// The table without semaphores.
+    pub fn new(alloc: Global) -> Result<Semaphores, NoMemory>
+        ensures { IfOk result (λ semaphores. semaphores ≡ record { rows = []; holdings = [] }) }
+    {
+        Ok(Semaphores {
+            tables: Tables {
+                alloc,
+                rows: BTreeMap::new(alloc),
+                holdings: BTreeMap::new(alloc),
+            },
+        })
+    }
+
+    /// The rows, by name and kind.
+    pub fn rows(&self) -> &BTreeMap<(Name, Kind), SemaphoreRow>
+        ensures { result.now.entries ≡ self.now.rows }
+    {
+        &self.tables.rows
+    }
+
+    /// What each session holds under each name.
+    pub fn holdings(&self) -> &BTreeMap<u64, BTreeMap<Name, u64>>
+        ensures { flat result.now.entries ≡ self.now.holdings }
+    {
+        &self.tables.holdings
+    }
+
+    /// How many permits of a semaphore stand available, none where it isn't there.
+    pub fn available(&self, kind: Kind, name: &Name) -> Result<Option<i64>, NoMemory>
+        ensures { IfOk result (λ available. available ≡ available_of (name.now, kind) self.now) }
+    {
+        let key = (name.clone()?, kind);
+        match rows::row_of(&self.tables.rows, &key) {
+            Some(row) => Ok(Some(row.available)),
+            None => Ok(None),
+        }
+    }
+
+    /// Does an operation to a semaphore. Where memory runs out, the table stays.
+    pub fn apply(&mut self, kind: Kind, name: &Name, op: &SemOp) -> Result<SemOutcome, NoMemory>
+        ensures after { OnOk result (self.new ≡ (sem_step (name.now, kind) op.now self.old).after) }
+        ensures outcome { IfOk result (λ outcome. IsOutcome outcome (sem_step (name.now, kind) op.now self.old).outcome (name.now, kind) self.new) }
+        ensures err { OnErr result (self.new ≡ self.old) }
+    {
+        let name = name.clone()?;
+        known(op);
+        match steps::step(&mut self.tables, (name, kind), op) {
+            Ok(outcome) => Ok(outcome),
+            Err(NoMemory) => Err(NoMemory),
+        }
+    }
+
+    /// Waiters that are served take their permits. Where memory runs out, some of the first may have taken theirs.
+    pub fn take_each(&mut self, kind: Kind, name: &Name, waiters: &[Waiter]) -> Result<(), NoMemory>
+        requires { AreServed (name.now, kind) waiters.now self.old }
+        ensures { OnOk result (self.new ≡ take_all (name.now, kind) waiters.now self.old) }
+    {
+        let key = (name.clone()?, kind);
+        match serving::take_each(&mut self.tables, &key, waiters) {
+            Ok(()) => Ok(()),
+            Err(NoMemory) => Err(NoMemory),
+        }
+    }
+}
