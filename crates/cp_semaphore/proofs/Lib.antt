@@ -5,3 +5,8 @@ pub mod Available
 pub mod Within
 pub mod Soundness
 pub mod Taking
+pub mod Together
+pub mod Backing
+pub mod Rooms
+pub mod Closings
+pub mod Destroyed

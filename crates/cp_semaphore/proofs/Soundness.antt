@@ -26,7 +26,7 @@ use Rattle.cp_semaphore.specs.declared.tables.Tables.{Tables}
 use Rattle.cp_semaphore.proofs.Within.{within-step, few-step}
 
 -- a session holds no more of a name than all do together
-one-of-all : (session : ℕ) (name : List ℕ) (h : List ((ℕ × List ℕ) × ℕ)) → held h session name ≤ held_by_all name h
+pub one-of-all : (session : ℕ) (name : List ℕ) (h : List ((ℕ × List ℕ) × ℕ)) → held h session name ≤ held_by_all name h
 one-of-all session name [] = omega arith
 one-of-all session name (e ∷ es) = by (holding_cmp (session, name) e.0) refl (one-of-all session name es)
   where
@@ -40,7 +40,7 @@ one-of-all session name (e ∷ es) = by (holding_cmp (session, name) e.0) refl (
     by Equal i rest = let here : bytes_eq name e.0.1 ≡ true = subst (λ (q : ℕ × List ℕ). bytes_eq name q.1 ≡ true) (holding_key.same (session, name) e.0 i) name_itself in
         rw here (omega arith)
 
-balance-at : (s : Semaphores) (key : Object) (row : SemaphoreRow) → IsBalanced s → find object_cmp s.rows key ≡ Some row → row.total ≡ row.available +ℤ pos (held_of key s.holdings)
+pub balance-at : (s : Semaphores) (key : Object) (row : SemaphoreRow) → IsBalanced s → find object_cmp s.rows key ≡ Some row → row.total ≡ row.available +ℤ pos (held_of key s.holdings)
 balance-at s key row b is = subst (λ (o : Option SemaphoreRow). IsBalancedAt o (held_of key s.holdings)) is (b key)
 
 between : (t a : ℤ) (n : ℕ) → t ≡ a +ℤ pos n → a ≤ℤ t

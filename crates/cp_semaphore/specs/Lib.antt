@@ -3,3 +3,4 @@ pub mod Tables
 pub mod Outcomes
 pub mod Fitting
 pub mod Serving
+pub mod Backs

@@ -1,8 +1,9 @@
 -- What sessions hold, kept session by session, seen as one list.
-use Rattle.std.specs.Prelude.{◌≡◌, ◌&&◌, ◌==◌, ℕ, List, [], ◌∷◌, ◌++◌, map, Option, Some, None, if◌then◌else◌}
+use Rattle.std.specs.Prelude.{◌≡◌, ◌&&◌, ◌==◌, ℕ, List, [], ◌∷◌, ◌++◌, map, Option, Some, None, bytes_eq, if◌then◌else◌}
 use Rattle.std.specs.Ordering.{nat_cmp}
 use Rattle.std.specs.BTreeMap.{BTreeMap, is_at}
 use Rattle.cp_group_state.specs.Rows.{find, name_cmp}
+use Rattle.cp_group_state.specs.Sessions.{is_among}
 use Rattle.cp_group_state.specs.Invariants.{IsRising}
 
 -- permits under names, under sessions
@@ -40,3 +41,15 @@ Sets session name n old new = (q : ℕ × List ℕ) → found new q ≡ (if is_a
 
 abbrev pub SameHoldings : Nested → Nested → Type 0
 SameHoldings old new = (q : ℕ × List ℕ) → found new q ≡ found old q
+
+-- nothing stands under this session, and elsewhere what stood
+abbrev pub ClosesSession : ℕ → Nested → Nested → Type 0
+ClosesSession session old new = (q : ℕ × List ℕ) → found new q ≡ (if is_at (nat_cmp session) q.0 then None else found old q)
+
+-- nothing stands under this name in these sessions, and elsewhere what stood
+abbrev pub without_name : List ℕ → List ℕ → Nested → ℕ × List ℕ → Option ℕ
+without_name name sessions nested q = if bytes_eq name q.1 && is_among sessions q.0 then None else found nested q
+
+-- nothing stands under this name, and elsewhere what stood
+abbrev pub ForgetsName : List ℕ → Nested → Nested → Type 0
+ForgetsName name old new = (q : ℕ × List ℕ) → found new q ≡ (if bytes_eq name q.1 then None else found old q)

@@ -1,7 +1,8 @@
 //! Rows after permits came or went.
 ghost use Rattle.std.specs.Prelude.{◌≡◌, ◌^◌, ◌<◌, ◌+ℤ◌, ◌-ℤ◌, pos, neg_ℤ};
-ghost use Rattle.cp_group_state.specs.Semaphores.{is_held, at_least_none};
+ghost use Rattle.cp_group_state.specs.Semaphores.{is_held, at_least_none, with_back};
 ghost use Rattle.cp_semaphore.specs.Tables.{IsInRange};
+ghost use Rattle.cp_semaphore.specs.Backs.{HasRoom};
 
 use cp_group_state::SemaphoreRow;
 use cp_ops::Kind;
@@ -46,9 +47,8 @@ pub(crate) fn lessened(row: SemaphoreRow, permits: u64) -> SemaphoreRow
 
 /// Permits come back from a session.
 pub(crate) fn returned(row: SemaphoreRow, permits: u64) -> SemaphoreRow
-    requires range { IsInRange row }
-    requires few { permits < 2 ^ 33 }
-    ensures { result ≡ record row { available = row.available +ℤ pos permits } }
+    requires { HasRoom row permits }
+    ensures { result ≡ with_back permits row }
 {
     SemaphoreRow {
         total: row.total,

@@ -1,10 +1,14 @@
 //! What sessions hold.
-ghost use Rattle.std.specs.Prelude.{◌≡◌, Some, None, unwrap_or, OnOk, OnErr};
+ghost use Rattle.std.specs.Prelude.{◌≡◌, ◌∷◌, ℕ, List, not, Some, None, unwrap_or, bytes_eq, IfOk, OnOk, OnErr};
+ghost use Rattle.std.specs.List.{filter};
+ghost use Rattle.std.specs.Map.{keys_of};
+ghost use Rattle.std.specs.Ordering.{nat_cmp};
+ghost use Rattle.cp_group_state.specs.Rows.{find};
 ghost use Rattle.cp_group_state.specs.Semaphores.{held, set_held};
-ghost use Rattle.cp_semaphore.specs.Nested.{flat, found, held_option, IsNested, Sets, SameHoldings};
+ghost use Rattle.cp_semaphore.specs.Nested.{flat, found, held_option, IsNested, Sets, SameHoldings, ClosesSession, without_name};
 
 use cp_base::{Name, NoMemory};
-use std::alloc::Global;
+use std::alloc::{AllocError, Global};
 use std::collections::BTreeMap;
 
 fn found(holdings: &BTreeMap<u64, BTreeMap<Name, u64>>, session: u64, name: &Name) -> u64
@@ -92,4 +96,62 @@ pub(crate) fn set(
         Ok(()) => Ok(()),
         Err(NoMemory) => Err(NoMemory),
     }
+}
+
+/// Takes out what a session holds.
+pub(crate) fn close(
+    holdings: &mut BTreeMap<u64, BTreeMap<Name, u64>>,
+    session: u64,
+) -> Option<BTreeMap<Name, u64>>
+    ensures held { result ≡ find nat_cmp holdings.old.entries session }
+    ensures gone { ClosesSession session holdings.old.entries holdings.new.entries }
+    ensures nested { IsNested holdings.old.entries → IsNested holdings.new.entries }
+{
+    holdings.remove(&session)
+}
+
+/// The sessions that hold something.
+fn sessions_of(
+    alloc: Global,
+    holdings: &BTreeMap<u64, BTreeMap<Name, u64>>,
+) -> Result<Vec<u64>, AllocError>
+    ensures { IfOk result (λ sessions. sessions.items ≡ keys_of holdings.now.entries) }
+{
+    holdings.keys().copied().collect(alloc)
+}
+
+/// The first of some sessions holds nothing of the semaphore of a name.
+fn remove_first(holdings: &mut BTreeMap<u64, BTreeMap<Name, u64>>, session: u64, name: &Name)
+    ensures gone { (sessions : List ℕ) (q : ℕ × List ℕ) → without_name name.now sessions holdings.new.entries q ≡ without_name name.now (session ∷ sessions) holdings.old.entries q }
+    ensures nested { IsNested holdings.old.entries → IsNested holdings.new.entries }
+{
+    remove(holdings, session, name);
+}
+
+/// These sessions hold nothing of the semaphore of a name.
+fn remove_each(holdings: &mut BTreeMap<u64, BTreeMap<Name, u64>>, sessions: &[u64], name: &Name)
+    ensures gone { (q : ℕ × List ℕ) → found holdings.new.entries q ≡ without_name name.now sessions.now holdings.old.entries q }
+    ensures nested { IsNested holdings.old.entries → IsNested holdings.new.entries }
+{
+    let mut rest = sessions;
+    while let [session, after @ ..] = rest {
+        remove_first(holdings, *session, name);
+        rest = after;
+    }
+}
+
+/// Nobody holds anything of the semaphore of a name. Where memory runs out, all holdings stay.
+pub(crate) fn forget(
+    holdings: &mut BTreeMap<u64, BTreeMap<Name, u64>>,
+    alloc: Global,
+    name: &Name,
+) -> Result<(), NoMemory>
+    requires { IsNested holdings.old.entries }
+    ensures ok { OnOk result (flat holdings.new.entries ≡ filter (λ e. not (bytes_eq name.now e.0.1)) (flat holdings.old.entries)) }
+    ensures err { OnErr result (holdings.new ≡ holdings.old) }
+    ensures nested { IsNested holdings.new.entries }
+{
+    let sessions = sessions_of(alloc, holdings)?;
+    remove_each(holdings, &sessions, name);
+    Ok(())
 }

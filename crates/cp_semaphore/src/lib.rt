@@ -2,6 +2,7 @@
 #![tactic(auto)]
 
 mod amounts;
+mod closing;
 mod holdings;
 mod outcome;
 mod rows;

@@ -1,14 +1,14 @@
 //! The table of semaphores.
 ghost use Rattle.std.specs.Prelude.{◌≡◌, ◌<◌, ◌^◌, [], IfOk, OnOk, OnErr};
-ghost use Rattle.cp_group_state.specs.Semaphores.{sem_step, take_all};
+ghost use Rattle.cp_group_state.specs.Semaphores.{all_back, sem_destroyed, sem_step, take_all};
 ghost use Rattle.cp_semaphore.specs.Fitting.{Fits};
 ghost use Rattle.cp_semaphore.specs.Nested.{flat};
 ghost use Rattle.cp_semaphore.specs.Outcomes.{IsOutcome, available_of};
 ghost use Rattle.cp_semaphore.specs.Serving.{AreServed};
 
 use crate::outcome::SemOutcome;
-use crate::tables::Tables;
-use crate::{rows, serving, steps};
+use crate::tables::{self, Tables};
+use crate::{closing, rows, serving, steps};
 use cp_base::{Name, NoMemory};
 use cp_group_state::{SemaphoreRow, Waiter};
 use cp_ops::{Kind, SemOp};
@@ -113,6 +113,25 @@ impl Semaphores {
     {
         let key = (name.clone()?, kind);
         match serving::take_each(&mut self.tables, &key, waiters) {
+            Ok(()) => Ok(()),
+            Err(NoMemory) => Err(NoMemory),
+        }
+    }
+
+    /// What closed sessions held goes back.
+    pub fn close_sessions(&mut self, sessions: &[u64])
+        ensures { self.new ≡ all_back sessions.now self.old }
+    {
+        closing::close_sessions(&mut self.tables, sessions);
+    }
+
+    /// A semaphore is destroyed: it goes, and what is held of it. Where memory runs out, the table stays.
+    pub fn destroy(&mut self, kind: Kind, name: &Name) -> Result<(), NoMemory>
+        ensures ok { OnOk result (self.new ≡ sem_destroyed (name.now, kind) self.old) }
+        ensures err { OnErr result (self.new ≡ self.old) }
+    {
+        let key = (name.clone()?, kind);
+        match tables::destroy(&mut self.tables, &key) {
             Ok(()) => Ok(()),
             Err(NoMemory) => Err(NoMemory),
         }

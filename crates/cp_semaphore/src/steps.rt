@@ -54,10 +54,7 @@ fn release_held(
         return Ok(SemOutcome::Done(Answer::NotHeld(held)));
     }
     match tables::give_back(tables, key, row, session, permits) {
-        Ok(()) => {
-            let available = amounts::returned(row, permits).available;
-            Ok(SemOutcome::Served(Answer::Ok, available))
-        }
+        Ok(available) => Ok(SemOutcome::Served(Answer::Ok, available)),
         Err(NoMemory) => Err(NoMemory),
     }
 }

@@ -1,8 +1,9 @@
 //! Permits that go and come.
-ghost use Rattle.std.specs.Prelude.{◌≡◌, ◌^◌, ◌<◌, ◌≤◌, ◌+ℤ◌, true, false, pos, neg_ℤ, Some, OnOk, OnErr};
-ghost use Rattle.cp_group_state.specs.Semaphores.{is_held, held, take, give_back, change_total};
+ghost use Rattle.std.specs.Prelude.{◌≡◌, ◌&&◌, not, bytes_eq, ◌^◌, ◌<◌, ◌≤◌, ◌+ℤ◌, true, false, pos, neg_ℤ, Some, IfOk, OnOk, OnErr};
+ghost use Rattle.std.specs.List.{filter};
+ghost use Rattle.cp_group_state.specs.Semaphores.{is_held, held, take, give_back, change_total, sem_destroyed};
 ghost use Rattle.cp_semaphore.specs.Nested.{flat, IsNested};
-ghost use Rattle.cp_semaphore.specs.Tables.{seen, IsMet};
+ghost use Rattle.cp_semaphore.specs.Tables.{seen, IsMet, IsTable};
 ghost use Rattle.cp_semaphore.specs.Outcomes.{available_of};
 
 use crate::{amounts, holdings, rows};
@@ -86,18 +87,19 @@ pub(crate) fn take(
     }
 }
 
-/// Permits come back from a session, which holds as many. Where memory runs out, the tables stay.
+/// Permits come back from a session, which holds as many. Gives what stands available then. Where memory runs out, the
+/// tables stay.
 pub(crate) fn give_back(
     tables: &mut Tables,
     key: &(Name, Kind),
     row: SemaphoreRow,
     session: u64,
     permits: u64,
-) -> Result<(), NoMemory>
+) -> Result<i64, NoMemory>
     requires met { IsMet tables.old key.now row }
     requires holds { permits ≤ held (flat tables.old.holdings.entries) session key.now.0 }
     ensures ok { OnOk result (seen tables.new ≡ give_back key.now row session permits (seen tables.old)) }
-    ensures available { OnOk result (available_of key.now (seen tables.new) ≡ Some (row.available +ℤ pos permits)) }
+    ensures available { IfOk result (λ available. available_of key.now (seen tables.new) ≡ Some available) }
     ensures err { OnErr result (seen tables.new ≡ seen tables.old) }
     ensures nested { IsNested tables.new.holdings.entries }
 {
@@ -112,8 +114,9 @@ pub(crate) fn give_back(
         Ok(()) => {}
         Err(NoMemory) => return Err(NoMemory),
     }
-    rows::write(&mut tables.rows, key, amounts::returned(row, permits));
-    Ok(())
+    let next = amounts::returned(row, permits);
+    rows::write(&mut tables.rows, key, next);
+    Ok(next.available)
 }
 
 /// The total grows.
@@ -137,4 +140,40 @@ pub(crate) fn shrink(tables: &mut Tables, key: &(Name, Kind), row: SemaphoreRow,
         key,
         amounts::lessened(row, u64::from(permits)),
     );
+}
+
+/// What is held of a semaphore goes. Where memory runs out, the holdings stay.
+fn forget_held(
+    holdings: &mut BTreeMap<u64, BTreeMap<Name, u64>>,
+    alloc: Global,
+    key: &(Name, Kind),
+) -> Result<(), NoMemory>
+    requires { IsNested holdings.old.entries }
+    ensures ok { OnOk result (flat holdings.new.entries ≡ filter (λ e. not (is_held key.now.1 && bytes_eq key.now.0 e.0.1)) (flat holdings.old.entries)) }
+    ensures err { OnErr result (flat holdings.new.entries ≡ flat holdings.old.entries) }
+    ensures nested { IsNested holdings.new.entries }
+{
+    if amounts::is_held(key.1) {
+        match holdings::forget(holdings, alloc, &key.0) {
+            Ok(()) => Ok(()),
+            Err(NoMemory) => Err(NoMemory),
+        }
+    } else {
+        Ok(())
+    }
+}
+
+/// A semaphore goes, and what is held of it. Where memory runs out, the tables stay.
+pub(crate) fn destroy(tables: &mut Tables, key: &(Name, Kind)) -> Result<(), NoMemory>
+    requires { IsTable tables.old }
+    ensures ok { OnOk result (seen tables.new ≡ sem_destroyed key.now (seen tables.old)) }
+    ensures err { OnErr result (seen tables.new ≡ seen tables.old) }
+    ensures nested { IsNested tables.new.holdings.entries }
+{
+    match forget_held(&mut tables.holdings, tables.alloc, key) {
+        Ok(()) => {}
+        Err(NoMemory) => return Err(NoMemory),
+    }
+    rows::remove(&mut tables.rows, key);
+    Ok(())
 }
