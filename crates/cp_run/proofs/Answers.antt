@@ -1,5 +1,5 @@
 -- What a client does at an answer and at a tick is allowed.
-use Rattle.std.proofs.Common.{◌≡◌, ℕ, ◌+◌, ◌-◌, ◌<◌, ◌≤◌, ◌⊎◌, inl, inr, Bool, true, false, not, ◌&&◌, List, [], ◌∷◌, ◌++◌, Some, None, Option, refl, sym, subst, ap, ◌∙◌, arith, length, map, le_refl, le_trans, append_assoc, if◌then◌else◌}
+use Rattle.std.proofs.Common.{◌≡◌, ℕ, ◌+◌, ◌-◌, ◌≤◌, ◌⊎◌, inl, inr, true, false, not, ◌&&◌, List, [], ◌∷◌, ◌++◌, Some, None, Option, refl, sym, subst, ap, ◌∙◌, arith, le_refl, append_assoc}
 use Rattle.std.specs.Prelude.{All, Contains, nat_lt, ◌==◌, unsigned_abs, slice_get, ℤ}
 use Rattle.std.specs.Ordering.{nat_cmp}
 use Rattle.std.proofs.lemmas.Bool.Decides.{nat_tests}
@@ -30,8 +30,7 @@ use Rattle.cp_group_state.specs.History.{IsReached}
 use Rattle.cp_group_state.specs.Protected.{down_in}
 use Rattle.cp_group_state.proofs.Keyed.{number_key}
 use Rattle.cp_group_state.proofs.Walk.{cases, either}
-use Rattle.cp_causes.specs.Moments.{session_used}
-use Rattle.cp_causes.proofs.Lists.{at-head, map-in, mapped, no-element, one-is}
+use Rattle.cp_causes.proofs.Lists.{at-head, no-element, one-is}
 use Rattle.cp_client_rules.specs.declared.rows.HoldRecord.{HoldRecord}
 use Rattle.cp_client_rules.specs.declared.rows.OwnSession.{OwnSession}
 use Rattle.cp_client_rules.specs.declared.rows.Pending.{Pending}
@@ -40,20 +39,19 @@ use Rattle.cp_client_rules.specs.declared.rows.Purpose.TheVariants as purpose
 use Rattle.cp_client_rules.specs.declared.rows.Task.{Task}
 use Rattle.cp_client_rules.specs.declared.rows.Task.TheVariants as task
 use Rattle.cp_client_rules.specs.Asking.{need_of, op_of, wish_of}
-use Rattle.cp_client_rules.specs.Clients.{Asked, Client, Did, LockKey, Sessions, Holds, and_then, answers, ask, idle, lock_cmp, next_request, nothing, thread_at}
-use Rattle.cp_client_rules.specs.Sessions.{forget_session, forgets, has_session, is_session, opens, sessions_after, with_session}
+use Rattle.cp_client_rules.specs.Clients.{Asked, Client, Did, LockKey, Sessions, Holds, and_then, idle, lock_cmp, nothing, thread_at}
+use Rattle.cp_client_rules.specs.Sessions.{forget_session, forgets, has_session, is_session, sessions_after, with_session}
 use Rattle.cp_client_rules.specs.Holds.{Holding, ends_holding, expired, held_after, holding, is_lock, is_owner, is_unlock, lowered, or_none, raised}
-use Rattle.cp_client_rules.specs.Calls.{Call, ask_itself, deadline_of, go_on, patience}
+use Rattle.cp_client_rules.specs.Calls.{deadline_of, patience}
 use Rattle.cp_client_rules.specs.Answers.{answer_client, call_in, finished, on_pending, on_task, prepared}
 use Rattle.cp_client_rules.specs.Ticks.{beat, beat_each, beat_if_due, beats, end_each, end_late, is_due, is_late, is_past, own_thread, tick_client, user_threads}
-use Rattle.cp_run.specs.Rows.{Called, Committed, End, Moved, Request}
+use Rattle.cp_run.specs.Rows.{End, Moved, Request}
 use Rattle.cp_run.specs.World.{World, client_at, client_of, note}
 use Rattle.cp_run.specs.Promises.{needs_session}
-use Rattle.cp_run.specs.Returns.{request_of}
 use Rattle.cp_run.proofs.Lists.{get-some, push-none, rows-find, rows-put, rows-without}
-use Rattle.cp_run.proofs.Ledgers.{ClientOk, Extends, Fenced, HoldOk, IsSourced, Knows, Ledger, OnLock, OpenedIn, PendingOk, PurposeOk, TaskOk, ToldBy, by_clock, by_end, by_loss, fenced-on, ledger_of, lock_key, on_lock-on, told-on}
-use Rattle.cp_run.proofs.Good.{AnsweredBy, Fits, Given, Good, UsesOwn}
-use Rattle.cp_run.proofs.Does.{DidOk, begins}
+use Rattle.cp_run.proofs.Ledgers.{Extends, Fenced, HoldOk, Knows, Ledger, OnLock, OpenedIn, PendingOk, PurposeOk, TaskOk, ToldBy, by_clock, by_end, by_loss, fenced-on, ledger_of, lock_key, on_lock-on, told-on}
+use Rattle.cp_run.proofs.Good.{AnsweredBy, Fits, Given, Good}
+use Rattle.cp_run.proofs.Does.{DidOk}
 use Rattle.cp_run.proofs.Clients.{Midway, ask-midway, did, go_on-fine, idle-midway, itself-fine, midway-now, needing-returns, records-midway, with_step}
 
 test_same : (a b : ℕ) → (a == b) ≡ true → a ≡ b

@@ -6,7 +6,6 @@ use Rattle.std.specs.BTreeMap.{is_at}
 use Rattle.std.proofs.lemmas.List.Elements.{Contains-append_cases, Contains-append_left, Contains-append_right}
 use Rattle.cp_base.specs.Identifiers.{replay_id}
 use Rattle.cp_base.specs.declared.identifier.ClientNo.{ClientNo}
-use Rattle.cp_base.specs.declared.identifier.GroupId.{GroupId}
 use Rattle.cp_base.specs.declared.identifier.Invocation.{Invocation}
 use Rattle.cp_base.specs.declared.identifier.ThreadNo.{ThreadNo}
 use Rattle.cp_answers.specs.declared.answer.Answer.{Answer}
@@ -19,39 +18,31 @@ use Rattle.cp_events.specs.declared.effects.Ending.TheVariants as ending
 use Rattle.cp_events.specs.declared.effects.Return.{Return}
 use Rattle.cp_events.specs.declared.object.Object.{Object}
 use Rattle.cp_events.specs.declared.plan.Plan.{Plan}
-use Rattle.cp_events.specs.declared.user_op.LatchCall.{LatchCall}
 use Rattle.cp_events.specs.declared.user_op.LatchCall.TheVariants as latch_call
-use Rattle.cp_events.specs.declared.user_op.LockCall.{LockCall}
 use Rattle.cp_events.specs.declared.user_op.LockCall.TheVariants as lock_call
-use Rattle.cp_events.specs.declared.user_op.SemCall.{SemCall}
 use Rattle.cp_events.specs.declared.user_op.SemCall.TheVariants as sem_call
 use Rattle.cp_events.specs.declared.user_op.UserOp.{UserOp}
 use Rattle.cp_events.specs.declared.user_op.UserOp.TheVariants as user
-use Rattle.cp_group_state.specs.Rows.{find, put}
+use Rattle.cp_group_state.specs.Rows.{find}
 use Rattle.cp_group_state.specs.GroupState.{GroupState}
 use Rattle.cp_group_state.specs.History.{IsReached}
 use Rattle.cp_group_state.specs.Protected.{down_in}
 use Rattle.cp_group_state.proofs.Keyed.{equal_is, find-put_same, find-put_other, number_key}
-use Rattle.cp_group_state.proofs.Walk.{either}
-use Rattle.cp_causes.specs.Moments.{session_used}
 use Rattle.cp_causes.proofs.Lists.{at-head, get-contains, map-in, mapped, no-element, one-is}
 use Rattle.cp_client_rules.specs.declared.rows.HoldRecord.{HoldRecord}
 use Rattle.cp_client_rules.specs.declared.rows.OwnSession.{OwnSession}
 use Rattle.cp_client_rules.specs.declared.rows.Pending.{Pending}
-use Rattle.cp_client_rules.specs.declared.rows.Purpose.{Purpose}
 use Rattle.cp_client_rules.specs.declared.rows.Purpose.TheVariants as purpose
-use Rattle.cp_client_rules.specs.declared.rows.Task.{Task}
 use Rattle.cp_client_rules.specs.declared.rows.Task.TheVariants as task
 use Rattle.cp_client_rules.specs.declared.rows.Thread.{Thread}
 use Rattle.cp_client_rules.specs.Asking.{Need, Nothing, HoldingSession, ItsSession, SessionToClose, Round, group_of, need_of, op_of, wish_of}
-use Rattle.cp_client_rules.specs.Clients.{Asked, Client, Did, LockKey, and_then, ask, done_at_once, id_of, lock_cmp, next_request, nothing, or_new, session_in_group, thread_at, with_thread}
+use Rattle.cp_client_rules.specs.Clients.{Asked, Client, Did, LockKey, ask, id_of, lock_cmp, next_request, or_new, session_in_group, thread_at, with_thread}
 use Rattle.cp_client_rules.specs.Calls.{Call, ask_itself, by_need, call_client, closing, deadline_of, go_on, holding_session, in_session, or_own, pending_of}
-use Rattle.cp_run.specs.Rows.{Called, Committed, End, Request}
+use Rattle.cp_run.specs.Rows.{Request}
 use Rattle.cp_run.specs.World.{World, client_at, note}
 use Rattle.cp_run.specs.Promises.{MayAsk, needs_session}
-use Rattle.cp_run.specs.Returns.{request_of}
-use Rattle.cp_run.proofs.Lists.{get-append, rows-find, rows-put, rows-without}
-use Rattle.cp_run.proofs.Ledgers.{ClientOk, Extends, HoldOk, IsSourced, Knows, Ledger, OpenedIn, PendingOk, PurposeOk, TaskOk, ToldBy, by_call, client-on, ledger_of, lock_key, pending-on, same-ledger, source-on}
+use Rattle.cp_run.proofs.Lists.{get-append, rows-find}
+use Rattle.cp_run.proofs.Ledgers.{ClientOk, Extends, HoldOk, IsSourced, Knows, Ledger, OpenedIn, PendingOk, TaskOk, ToldBy, by_call, client-on, ledger_of, lock_key}
 use Rattle.cp_run.proofs.Good.{AnsweredBy, Good, UsesOwn}
 use Rattle.cp_run.proofs.Does.{DidOk, DistinctAsked, begins}
 

@@ -1,7 +1,6 @@
 -- The clock of a client moves by its ticks alone.
-use Rattle.std.proofs.Common.{◌≡◌, ℕ, ◌+◌, Bool, true, false, List, [], ◌∷◌, Some, None, Option, refl, sym, ap, ◌∙◌, if◌then◌else◌}
-use Rattle.std.specs.Prelude.{◌==◌, unsigned_abs}
-use Rattle.std.specs.Ordering.{nat_cmp}
+use Rattle.std.proofs.Common.{◌≡◌, ℕ, ◌+◌, List, [], ◌∷◌, Some, None, Option, refl, ◌∙◌}
+use Rattle.std.specs.Prelude.{◌==◌}
 use Rattle.cp_base.specs.declared.identifier.ClientId.{ClientId}
 use Rattle.cp_base.specs.declared.identifier.Invocation.{Invocation}
 use Rattle.cp_base.specs.declared.identifier.ThreadNo.{ThreadNo}
@@ -9,18 +8,16 @@ use Rattle.cp_answers.specs.declared.answer.Answer.{Answer}
 use Rattle.cp_answers.specs.declared.answer.Answer.TheVariants as answer
 use Rattle.cp_events.specs.declared.plan.Plan.{Plan}
 use Rattle.cp_events.specs.declared.user_op.UserOp.{UserOp}
-use Rattle.cp_group_state.specs.Rows.{find}
 use Rattle.cp_group_state.proofs.Walk.{either}
-use Rattle.cp_client_rules.specs.declared.rows.OwnSession.{OwnSession}
 use Rattle.cp_client_rules.specs.declared.rows.Pending.{Pending}
 use Rattle.cp_client_rules.specs.declared.rows.Purpose.{Purpose}
 use Rattle.cp_client_rules.specs.declared.rows.Purpose.TheVariants as purpose
 use Rattle.cp_client_rules.specs.declared.rows.Task.{Task}
 use Rattle.cp_client_rules.specs.declared.rows.Task.TheVariants as task
 use Rattle.cp_client_rules.specs.Asking.{Need, Nothing, HoldingSession, ItsSession, SessionToClose, Round, group_of, need_of, wish_of}
-use Rattle.cp_client_rules.specs.Clients.{Client, Did, Sessions, and_then, nothing, session_in_group, thread_at}
+use Rattle.cp_client_rules.specs.Clients.{Client, Did, Sessions, and_then, session_in_group, thread_at}
 use Rattle.cp_client_rules.specs.Sessions.{has_session, with_session}
-use Rattle.cp_client_rules.specs.Calls.{Call, by_need, call_client, closing, deadline_of, go_on, holding_session, in_session}
+use Rattle.cp_client_rules.specs.Calls.{Call, by_need, call_client, closing, deadline_of, holding_session, in_session}
 use Rattle.cp_client_rules.specs.Answers.{answer_client, call_in, on_pending, on_task, prepared}
 use Rattle.cp_client_rules.specs.Ticks.{beat_each, beat_if_due, beats, end_each, end_late, is_due, is_late, tick_client, user_threads}
 

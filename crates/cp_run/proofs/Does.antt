@@ -1,5 +1,5 @@
 -- A client's step keeps the invariant.
-use Rattle.std.proofs.Common.{◌≡◌, ℕ, ◌+◌, ◌<◌, ◌≤◌, ◌⊎◌, inl, inr, Bool, true, false, List, [], ◌∷◌, ◌++◌, Some, None, Option, refl, sym, subst, ap, ◌∙◌, arith, length, map, le_refl, le_trans}
+use Rattle.std.proofs.Common.{◌≡◌, ℕ, ◌+◌, ◌<◌, ◌≤◌, ◌⊎◌, inl, inr, Bool, true, false, List, ◌++◌, Some, refl, sym, subst, ap, ◌∙◌, arith, length, map, le_refl, le_trans}
 use Rattle.std.specs.Prelude.{Contains, slice_get}
 use Rattle.std.specs.Ordering.{nat_cmp}
 use Rattle.std.specs.BTreeMap.{is_at}
@@ -20,7 +20,7 @@ use Rattle.cp_client_rules.specs.Clients.{Asked, Client, Did, thread_at}
 use Rattle.cp_run.specs.Rows.{Committed, End, Request, Returned}
 use Rattle.cp_run.specs.World.{World, client_at, client_of, does, note, or_new}
 use Rattle.cp_run.proofs.Lists.{get-append, get-map}
-use Rattle.cp_run.proofs.Ledgers.{ClientOk, Extends, IsSourced, Ledger, ToldBy, client-on, ledger_of, source-on, told-on}
+use Rattle.cp_run.proofs.Ledgers.{ClientOk, Extends, IsSourced, ToldBy, client-on, ledger_of, source-on, told-on}
 use Rattle.cp_run.proofs.Good.{AnsweredBy, Distinct, Entered, Given, Good, IsReady, UsesOwn, commits-given, commits-good}
 
 -- a request of a step, as it is noted

@@ -7,7 +7,6 @@ use Rattle.cp_answers.specs.declared.answer.Answer.{Answer}
 use Rattle.cp_answers.specs.declared.answer.Answer.TheVariants as answer
 use Rattle.cp_answers.specs.declared.argument.Argument.TheVariants as argument
 use Rattle.cp_answers.specs.declared.ended_by.EndedBy.TheVariants as ended_by
-use Rattle.cp_ops.specs.declared.entry.Entry.{Entry}
 use Rattle.cp_ops.specs.declared.entry.Entry.TheVariants as entry
 use Rattle.cp_op_values.specs.declared.kind.Kind.TheVariants as kind
 use Rattle.cp_object_ops.specs.declared.latch_op.LatchOp.TheVariants as latch
@@ -41,7 +40,7 @@ use Rattle.cp_events.specs.declared.user_op.SemCall.TheVariants as sem_call
 use Rattle.cp_events.specs.declared.user_op.UserOp.{UserOp}
 use Rattle.cp_events.specs.declared.user_op.UserOp.TheVariants as user
 use Rattle.cp_run.specs.Rows.{Committed}
-use Rattle.cp_run.specs.Execution.{Outcomes, Settled, execution_of}
+use Rattle.cp_run.specs.Execution.{Settled, execution_of}
 
 -- a header with so many clients, and no members
 abbrev pub plan_of : ℕ → List HoldLimit → Plan

@@ -1,16 +1,14 @@
 -- The invariant of the world, and that a commit keeps it.
-use Rattle.std.proofs.Common.{◌≡◌, ℕ, ◌+◌, ◌<◌, ◌≤◌, ◌⊎◌, inl, inr, Bool, true, false, List, [], ◌∷◌, ◌++◌, Some, None, Option, refl, sym, subst, ap, ◌∙◌, arith, length, map, le_refl, le_trans, zero, suc}
+use Rattle.std.proofs.Common.{◌≡◌, ℕ, ◌+◌, ◌<◌, ◌≤◌, ◌⊎◌, inl, inr, true, false, List, [], ◌∷◌, ◌++◌, Some, None, Option, refl, sym, subst, ap, ◌∙◌, arith, length, le_refl, le_trans, zero, suc}
 use Rattle.std.specs.Prelude.{Contains, slice_get, unsigned_abs}
-use Rattle.std.specs.Ordering.{nat_cmp}
 use Rattle.std.proofs.lemmas.List.{length_push}
-use Rattle.std.proofs.lemmas.List.Elements.{Contains-append_cases, Contains-append_left, Contains-push_cases}
+use Rattle.std.proofs.lemmas.List.Elements.{Contains-append_cases, Contains-push_cases}
 use Rattle.cp_base.specs.Identifiers.{replay_id}
 use Rattle.cp_base.specs.declared.identifier.ClientId.{ClientId}
 use Rattle.cp_base.specs.declared.identifier.ClientNo.{ClientNo}
 use Rattle.cp_base.specs.declared.identifier.Invocation.{Invocation}
 use Rattle.cp_answers.specs.declared.answer.Answer.{Answer}
 use Rattle.cp_answers.specs.declared.answer.Answer.TheVariants as answer
-use Rattle.cp_ops.specs.declared.entry.Entry.{Entry}
 use Rattle.cp_ops.specs.declared.entry.Entry.TheVariants as entry
 use Rattle.cp_object_ops.specs.declared.latch_op.LatchOp.TheVariants as latch
 use Rattle.cp_ops.specs.declared.op.Op.{Op}
@@ -25,18 +23,18 @@ use Rattle.cp_group_state.specs.History.{IsBelow, IsOrderlyAt, IsOrderlyFrom, Is
 use Rattle.cp_group_state.specs.Protected.{down_in, session_in}
 use Rattle.cp_group_state.specs.Invariants.{IsOrdered}
 use Rattle.cp_group_state.proofs.Ordered.{order-apply}
-use Rattle.cp_causes.specs.Moments.{SessionsAreOwn, WasOpenFor, session_used, state_after, state_before}
-use Rattle.cp_causes.proofs.Lists.{at-head, at-tail, get-in, get-last, get-left, no-element}
+use Rattle.cp_causes.specs.Moments.{SessionsAreOwn, WasOpenFor, session_used, state_before}
+use Rattle.cp_causes.proofs.Lists.{at-head, at-tail, get-in, get-last, get-left}
 use Rattle.cp_causes.proofs.Acts.{SessionsUpTo}
 use Rattle.cp_causes.proofs.After.{after-apply}
 use Rattle.cp_causes.proofs.Caused.{names-used}
-use Rattle.cp_client_rules.specs.Clients.{Asked, Client, thread_at}
-use Rattle.cp_run.specs.Rows.{Called, Committed, End, Request, Returned, entries_of}
+use Rattle.cp_client_rules.specs.Clients.{Asked, thread_at}
+use Rattle.cp_run.specs.Rows.{Committed, End, Request, Returned, entries_of}
 use Rattle.cp_run.specs.World.{World, client_at, client_of, commit, commit_all}
 use Rattle.cp_run.proofs.Lists.{after-one_more, all_after, entries-length, entries-more, get-append, moment-last, orderly-one_more, run-length, run-one_more}
 use Rattle.cp_run.proofs.Rounds.{Capped, rounds-applied}
 use Rattle.cp_run.proofs.GroupLaws.{StepSound, Tells, call-applied, prepares, tells-plain}
-use Rattle.cp_run.proofs.Ledgers.{ClientOk, Extends, IsSourced, Ledger, OpenedIn, ToldBy, client-on, ledger_of, opened-on, source-on, told-on, was-on}
+use Rattle.cp_run.proofs.Ledgers.{ClientOk, Extends, IsSourced, OpenedIn, ToldBy, client-on, ledger_of, opened-on, source-on, told-on, was-on}
 
 -- The call's own entry, committed not before its request began.
 pub record Entered (requests : List Request) (history : List Committed) (now : ℕ) (call : Invocation) (o : Op) : Type 0 where

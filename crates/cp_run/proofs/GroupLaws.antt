@@ -1,15 +1,14 @@
 -- What an entry of a call does: who is answered, who waits, and what an answer to a preparing request tells.
-use Rattle.std.proofs.Common.{◌≡◌, ℕ, ◌^◌, ◌≤◌, ◌⊎◌, inl, inr, Bool, true, false, List, [], ◌∷◌, ◌++◌, map, Some, None, Option, refl, sym, subst, arith, ap, ◌∙◌, length, le_refl, if◌then◌else◌, cond}
-use Rattle.std.specs.Prelude.{◌==◌, Contains, pos, unsigned_abs, nat_lt, bytes_eq}
-use Rattle.std.specs.declared.cmp.Ordering.{Ordering}
-use Rattle.std.specs.declared.cmp.Ordering.TheVariants.{Less, Equal, Greater}
-use Rattle.std.specs.Ordering.{nat_cmp, is_eq, ordering_reverse}
+use Rattle.std.proofs.Common.{◌≡◌, ℕ, ◌⊎◌, inl, inr, Bool, true, false, List, [], ◌∷◌, ◌++◌, map, Some, None, Option, refl, sym, subst, ap, ◌∙◌, length, le_refl}
+use Rattle.std.specs.Prelude.{◌==◌, Contains, pos, unsigned_abs, nat_lt}
+use Rattle.std.specs.declared.cmp.Ordering.TheVariants.{Less}
+use Rattle.std.specs.Ordering.{nat_cmp}
 use Rattle.std.specs.List.{filter, AllByRecursion}
 use Rattle.std.specs.List.Sorted.{IsStrictlySortedBy}
 use Rattle.std.specs.Map.{keys_of}
 use Rattle.std.specs.BTreeMap.{is_at}
 use Rattle.std.proofs.lemmas.Cmp.{nat_cmp_total}
-use Rattle.std.proofs.lemmas.List.Elements.{All-contains, Contains-append_left, Contains-append_right, Contains-append_cases, Contains-push, Contains-push_cases}
+use Rattle.std.proofs.lemmas.List.Elements.{All-contains, Contains-append_cases, Contains-push_cases}
 use Rattle.cp_base.specs.declared.identifier.ClientId.{ClientId}
 use Rattle.cp_base.specs.declared.identifier.GroupId.{GroupId}
 use Rattle.cp_base.specs.declared.identifier.Invocation.{Invocation}
@@ -29,7 +28,7 @@ use Rattle.cp_group_state.specs.declared.rows.SessionRow.{SessionRow}
 use Rattle.cp_group_state.specs.declared.rows.Waiter.{Waiter}
 use Rattle.cp_group_state.specs.Rows.{Object, find, put, has_room, most, object_cmp}
 use Rattle.cp_group_state.specs.Waiters.{Ended, stands, first, same_client}
-use Rattle.cp_group_state.specs.Sessions.{is_of, is_open_for, session_of}
+use Rattle.cp_group_state.specs.Sessions.{is_open_for, session_of}
 use Rattle.cp_group_state.specs.Latches.{latch_at}
 use Rattle.cp_group_state.specs.GroupState.{GroupState}
 use Rattle.cp_group_state.specs.Changes.{Change, end_all, for_each, stay}
@@ -40,8 +39,8 @@ use Rattle.cp_group_state.specs.SessionRules.{opened}
 use Rattle.cp_group_state.specs.Protected.{session_in}
 use Rattle.cp_group_state.specs.Apply.{Applied, apply, apply_call, by_memory, by_session, give_again, is_elsewhere, is_older, join, outcome, perform, remembered, settle, settle_answer, settle_wait, supersede, told}
 use Rattle.cp_group_state.specs.History.{IsReached}
-use Rattle.cp_group_state.specs.Invariants.{IsOrdered, IsRising}
-use Rattle.cp_group_state.proofs.Keyed.{client-itself, equal_is, find-put_same, number_key, same-client}
+use Rattle.cp_group_state.specs.Invariants.{IsRising}
+use Rattle.cp_group_state.proofs.Keyed.{client-itself, find-put_same, number_key}
 use Rattle.cp_group_state.proofs.Walk.{cases, either}
 use Rattle.cp_group_state.proofs.Grows.{is_of-same}
 use Rattle.cp_group_state.proofs.Told.{IsOwnWait, own-outcome}

@@ -1,13 +1,11 @@
 -- The promises hold of what is known after all events.
-use Rattle.std.proofs.Common.{◌≡◌, ℕ, ◌+◌, ◌*◌, ◌^◌, ◌<◌, ◌≤◌, ◌⊎◌, inl, inr, List, [], ◌∷◌, ◌++◌, Some, None, refl, sym, subst, ap, ◌∙◌, arith, length, map, zero, suc, le_trans}
+use Rattle.std.proofs.Common.{◌≡◌, ℕ, ◌+◌, ◌*◌, ◌^◌, ◌<◌, ◌≤◌, ◌⊎◌, inl, inr, List, [], ◌∷◌, Some, None, refl, sym, subst, ap, ◌∙◌, arith, length, map, zero, suc, le_trans}
 use Rattle.std.specs.Prelude.{Contains, slice_get}
 use Rattle.std.proofs.lemmas.List.Elements.{Contains-append_left, Contains-append_right}
-use Rattle.cp_base.specs.Identifiers.{replay_id}
 use Rattle.cp_base.specs.declared.identifier.ClientNo.{ClientNo}
 use Rattle.cp_base.specs.declared.identifier.Invocation.{Invocation}
 use Rattle.cp_base.specs.declared.identifier.ThreadNo.{ThreadNo}
 use Rattle.cp_answers.specs.declared.answer.Answer.{Answer}
-use Rattle.cp_ops.specs.declared.entry.Entry.{Entry}
 use Rattle.cp_ops.specs.declared.entry.Entry.TheVariants as entry
 use Rattle.cp_ops.specs.declared.op.Op.{Op}
 use Rattle.cp_events.specs.declared.effects.Effects.{Effects}
@@ -24,13 +22,13 @@ use Rattle.cp_group_state.specs.History.{Given, IsOrderly, answers_of, given_fro
 use Rattle.cp_group_state.proofs.Once.{acts-once}
 use Rattle.cp_group_state.proofs.Fences.{fences-rise}
 use Rattle.cp_group_state.proofs.Answered.{fences-stand}
-use Rattle.cp_causes.proofs.Lists.{get-contains, map-in, mapped}
+use Rattle.cp_causes.proofs.Lists.{map-in, mapped}
 use Rattle.cp_causes.proofs.Caused.{have-causes}
-use Rattle.cp_run.specs.Rows.{Called, Committed, End, Moved, Request, entries_of}
+use Rattle.cp_run.specs.Rows.{Committed, End, Request, entries_of}
 use Rattle.cp_run.specs.World.{World, new_world, world_after}
 use Rattle.cp_run.specs.Execution.{Execution, Outcomes, events_of, executed, execution_of}
 use Rattle.cp_run.specs.Promises.{IsAnswerOfHistory, IsBeat, IsExplained, IsInRealTime, IsRequestOfCall, TookPlace}
-use Rattle.cp_run.specs.Returns.{IsOnLock, IsTold, answered, at_once, clock_after, late, lost, request_of}
+use Rattle.cp_run.specs.Returns.{IsOnLock, IsTold, answered, at_once, clock_after, late, lost}
 use Rattle.cp_client_rules.specs.Calls.{patience}
 use Rattle.cp_run.specs.Headline.{Headline, IsPrompt}
 use Rattle.cp_run.proofs.Lists.{entries-length, get-some}

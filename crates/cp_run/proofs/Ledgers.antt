@@ -1,7 +1,6 @@
 -- What the records of a client rest on: requests, their ends, calls, clocks, and sessions that were opened.
-use Rattle.std.proofs.Common.{◌≡◌, ℕ, ◌+◌, ◌≤◌, ◌⊎◌, inl, inr, true, List, [], ◌∷◌, ◌++◌, Some, None, Option, refl, sym, subst, ap, ◌∙◌, arith, length, le_refl, le_trans}
-use Rattle.std.specs.Prelude.{All, Contains, slice_get}
-use Rattle.std.specs.Ordering.{nat_cmp}
+use Rattle.std.proofs.Common.{◌≡◌, ℕ, ◌+◌, ◌≤◌, ◌⊎◌, inl, inr, true, List, ◌++◌, Some, None, Option, sym, subst, arith, length, le_refl, le_trans}
+use Rattle.std.specs.Prelude.{All, Contains}
 use Rattle.std.proofs.lemmas.List.{length-append}
 use Rattle.std.proofs.lemmas.List.Elements.{All-weaker}
 use Rattle.cp_base.specs.Identifiers.{replay_id}
@@ -9,7 +8,6 @@ use Rattle.cp_base.specs.declared.identifier.ClientId.{ClientId}
 use Rattle.cp_base.specs.declared.identifier.ClientNo.{ClientNo}
 use Rattle.cp_base.specs.declared.identifier.Invocation.{Invocation}
 use Rattle.cp_base.specs.declared.identifier.ThreadNo.{ThreadNo}
-use Rattle.cp_answers.specs.declared.answer.Answer.{Answer}
 use Rattle.cp_answers.specs.declared.answer.Answer.TheVariants as answer
 use Rattle.cp_answers.specs.declared.ended_by.EndedBy.TheVariants as ended_by
 use Rattle.cp_ops.specs.declared.entry.Entry.{Entry}
@@ -23,12 +21,11 @@ use Rattle.cp_events.specs.declared.effects.Return.{Return}
 use Rattle.cp_events.specs.declared.object.Object.{Object}
 use Rattle.cp_events.specs.declared.plan.Plan.{Plan}
 use Rattle.cp_events.specs.declared.user_op.LatchCall.TheVariants as latch_call
-use Rattle.cp_events.specs.declared.user_op.UserOp.{UserOp}
 use Rattle.cp_events.specs.declared.user_op.UserOp.TheVariants as user
 use Rattle.cp_group_state.specs.Sessions.{is_open_for}
 use Rattle.cp_group_state.specs.GroupState.{empty}
 use Rattle.cp_group_state.proofs.Keyed.{IsKey, name_key, number_key, then_equal}
-use Rattle.cp_causes.specs.Moments.{WasOpenFor, state_after, state_before}
+use Rattle.cp_causes.specs.Moments.{WasOpenFor, state_before}
 use Rattle.cp_client_rules.specs.declared.rows.HoldRecord.{HoldRecord}
 use Rattle.cp_client_rules.specs.declared.rows.OwnSession.{OwnSession}
 use Rattle.cp_client_rules.specs.declared.rows.Pending.{Pending}
@@ -44,7 +41,7 @@ use Rattle.cp_run.specs.Rows.{Called, Committed, End, Moved, Request, entries_of
 use Rattle.cp_run.specs.World.{World}
 use Rattle.cp_run.specs.Promises.{MayAsk, needs_session}
 use Rattle.cp_run.specs.Returns.{request_of}
-use Rattle.cp_run.proofs.Lists.{entries-length, entries-more, moment-front, rows-weaker}
+use Rattle.cp_run.proofs.Lists.{entries-length, entries-more, moment-front}
 
 -- the session was opened for the client
 pub record OpenedIn (history : List Committed) (s : ℕ) (client : ClientId) : Type 0 where

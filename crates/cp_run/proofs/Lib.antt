@@ -13,3 +13,4 @@ pub mod Printed
 pub mod Runs
 pub mod Kept
 pub mod Examples
+pub mod Bounds

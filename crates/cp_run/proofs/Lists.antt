@@ -1,5 +1,5 @@
 -- Lists that grow at the end, and what a history gives after each entry.
-use Rattle.std.proofs.Common.{◌≡◌, ℕ, ◌+◌, ◌<◌, ◌≤◌, ◌⊎◌, inl, inr, List, [], ◌∷◌, ◌++◌, Some, None, refl, sym, subst, arith, map, length, ap, ◌∙◌, zero, suc}
+use Rattle.std.proofs.Common.{◌≡◌, ℕ, ◌+◌, ◌<◌, ◌≤◌, ◌⊎◌, inl, inr, List, [], ◌∷◌, ◌++◌, Some, None, refl, sym, subst, arith, map, length, ap, zero, suc}
 use Rattle.std.specs.Prelude.{All, Contains, slice_get}
 use Rattle.std.specs.declared.cmp.Ordering.{Ordering}
 use Rattle.std.specs.declared.cmp.Ordering.TheVariants.{Less, Equal, Greater}
@@ -10,7 +10,7 @@ use Rattle.std.proofs.lemmas.List.Elements.{All-cons, All-head, All-tail, All-we
 use Rattle.std.proofs.lemmas.List.{map-append}
 use Rattle.cp_ops.specs.declared.entry.Entry.{Entry}
 use Rattle.cp_group_state.specs.GroupState.{GroupState}
-use Rattle.cp_group_state.specs.Apply.{Applied, apply, run}
+use Rattle.cp_group_state.specs.Apply.{apply, run}
 use Rattle.cp_group_state.specs.History.{IsOrderlyAt, IsOrderlyFrom}
 use Rattle.cp_group_state.specs.Rows.{find, put, without}
 use Rattle.cp_group_state.proofs.Keyed.{IsKey, equal_is}

@@ -1,5 +1,5 @@
 -- What stands printed: the events in their order, the calls and ticks that took place, the returns, and clocks.
-use Rattle.std.proofs.Common.{◌≡◌, ℕ, ◌+◌, ◌<◌, ◌≤◌, ◌⊎◌, inl, inr, Bool, true, false, ◌&&◌, List, [], ◌∷◌, ◌++◌, Some, None, Option, refl, sym, subst, ap, ◌∙◌, arith, length, map, zero, suc, le_refl, le_trans, append_assoc, if◌then◌else◌}
+use Rattle.std.proofs.Common.{◌≡◌, ℕ, ◌+◌, ◌<◌, ◌≤◌, ◌⊎◌, inl, inr, Bool, true, false, ◌&&◌, List, [], ◌∷◌, ◌++◌, Some, None, Option, refl, sym, subst, ap, ◌∙◌, arith, length, map, zero, suc, le_trans, append_assoc, if◌then◌else◌}
 use Rattle.std.specs.Prelude.{Contains, slice_get, nat_lt, nat_le, ◌^◌, is_none, ◌==◌}
 use Rattle.std.specs.Ordering.{is_eq, nat_cmp}
 use Rattle.std.specs.BTreeMap.{is_at}
@@ -21,15 +21,15 @@ use Rattle.cp_events.specs.declared.plan.Plan.{Plan}
 use Rattle.cp_events.specs.declared.user_op.UserOp.{UserOp}
 use Rattle.cp_group_state.specs.Rows.{find, put}
 use Rattle.cp_group_state.proofs.Keyed.{equal_is, find-put_same, find-put_other, number_key}
-use Rattle.cp_group_state.proofs.Walk.{cases, either}
-use Rattle.cp_causes.proofs.Lists.{at-head, at-tail, get-contains, get-last, get-in, mapped, map-in, no-element}
+use Rattle.cp_group_state.proofs.Walk.{either}
+use Rattle.cp_causes.proofs.Lists.{at-head, at-tail, get-in, mapped, map-in, no-element}
 use Rattle.cp_client_rules.specs.declared.rows.Pending.{Pending}
-use Rattle.cp_client_rules.specs.Clients.{Asked, Client, Did, thread_at}
+use Rattle.cp_client_rules.specs.Clients.{Asked, Did, thread_at}
 use Rattle.cp_client_rules.specs.Calls.{call_client}
 use Rattle.cp_client_rules.specs.Answers.{answer_client}
 use Rattle.cp_client_rules.specs.Ticks.{tick_client}
 use Rattle.cp_run.specs.Rows.{Called, Moved, Returned}
-use Rattle.cp_run.specs.World.{World, begin, calls_if_idle, calls_now, client_at, client_of, commit, commit_all, does, hand_all, hand_on, handed, ignore, is_client, moves_if_room, moves_now, new_world, note, or_new, start, world_after, world_step}
+use Rattle.cp_run.specs.World.{World, begin, calls_if_idle, calls_now, client_at, client_of, commit, commit_all, does, hand_all, hand_on, handed, ignore, is_client, moves_now, new_world, note, or_new, start, world_after, world_step}
 use Rattle.cp_run.specs.Returns.{clock_after, moved_by}
 use Rattle.cp_run.proofs.Lists.{get-append, get-some}
 use Rattle.cp_run.proofs.Prompt.{AllCommitted, does-committed}

@@ -4,7 +4,7 @@ use Rattle.std.proofs.lemmas.List.{map-append}
 use Rattle.cp_base.specs.declared.identifier.ClientNo.{ClientNo}
 use Rattle.cp_ops.specs.declared.entry.Entry.TheVariants as entry
 use Rattle.cp_client_rules.specs.Clients.{Asked, Did}
-use Rattle.cp_run.specs.Rows.{Committed, Request, committed_of}
+use Rattle.cp_run.specs.Rows.{Committed, committed_of}
 use Rattle.cp_run.specs.World.{World, commit, commit_all, does, note}
 
 -- the entries are those of the requests

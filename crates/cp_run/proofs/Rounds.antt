@@ -1,6 +1,6 @@
 -- Rounds of latches never fall, and never pass 2 ^ 62.
-use Rattle.std.proofs.Common.{is_some, ◌≡◌, ℕ, ◌^◌, ◌≤◌, ◌⊎◌, inl, inr, Bool, true, false, List, [], ◌∷◌, Some, None, Option, refl, sym, subst, arith, le_refl, le_trans, if◌then◌else◌}
-use Rattle.std.specs.Prelude.{◌==◌, All, nat_lt}
+use Rattle.std.proofs.Common.{◌≡◌, ℕ, ◌^◌, ◌≤◌, inl, inr, Bool, true, false, List, [], ◌∷◌, Some, refl, sym, subst, arith, le_refl, le_trans}
+use Rattle.std.specs.Prelude.{◌==◌, nat_lt}
 use Rattle.std.specs.BTreeMap.{is_at}
 use Rattle.std.specs.Map.{values_of}
 use Rattle.std.proofs.lemmas.List.Elements.{All-cons, All-head, All-tail}
@@ -13,7 +13,7 @@ use Rattle.cp_object_ops.specs.declared.latch_op.LatchOp.{LatchOp}
 use Rattle.cp_object_ops.specs.declared.latch_op.LatchOp.TheVariants as latch
 use Rattle.cp_ops.specs.declared.op.Op.{Op}
 use Rattle.cp_group_state.specs.declared.rows.LatchRow.{LatchRow}
-use Rattle.cp_group_state.specs.Rows.{Object, find, put, without, has_room, most, name_cmp, object_cmp}
+use Rattle.cp_group_state.specs.Rows.{put, without, has_room, most, name_cmp}
 use Rattle.cp_group_state.specs.Latches.{LatchStep, latch_at, latch_step, is_over, next_round, counted_down, counted_calls, most_counted}
 use Rattle.cp_group_state.specs.GroupState.{GroupState}
 use Rattle.cp_group_state.specs.Changes.{Change}
@@ -25,7 +25,7 @@ use Rattle.cp_group_state.specs.History.{IsReached}
 use Rattle.cp_group_state.proofs.Keyed.{equal_is, find-put_same, find-put_other, find-without_other, name_key}
 use Rattle.cp_group_state.proofs.Walk.{either, Closed, keep_session, walk_on_latch, walk_outcome}
 use Rattle.cp_group_state.proofs.Steps.{RoundsWithin, within-supersede}
-use Rattle.cp_group_state.proofs.Grows.{Grows, gone-put, gone-put_same}
+use Rattle.cp_group_state.proofs.Grows.{gone-put, gone-put_same}
 use Rattle.cp_group_state.proofs.Established.{reached-supersede}
 
 abbrev pub Capped : GroupState → Type 0

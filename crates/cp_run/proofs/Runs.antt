@@ -1,53 +1,33 @@
 -- The invariant holds of every run, and the promises follow from it.
-use Rattle.std.proofs.Common.{◌≡◌, ℕ, ◌+◌, ◌*◌, ◌^◌, ◌<◌, ◌≤◌, ◌⊎◌, inl, inr, Bool, true, false, List, [], ◌∷◌, ◌++◌, Some, None, Option, refl, sym, subst, ap, ◌∙◌, arith, length, map, zero, suc, le_refl, le_trans}
-use Rattle.std.specs.Prelude.{Contains, nat_lt, slice_get}
-use Rattle.std.proofs.lemmas.List.Elements.{All-nil, Contains-append_left, Contains-append_right, Contains-push}
+use Rattle.std.proofs.Common.{◌≡◌, ℕ, ◌+◌, ◌^◌, ◌≤◌, true, false, List, [], ◌∷◌, ◌++◌, Some, None, Option, refl, subst, arith, length, le_refl, le_trans}
+use Rattle.std.specs.Prelude.{Contains, nat_lt}
+use Rattle.std.proofs.lemmas.List.Elements.{All-nil, Contains-append_left, Contains-push}
 use Rattle.cp_base.specs.Identifiers.{replay_id}
 use Rattle.cp_base.specs.declared.identifier.ClientNo.{ClientNo}
 use Rattle.cp_base.specs.declared.identifier.Invocation.{Invocation}
 use Rattle.cp_base.specs.declared.identifier.ThreadNo.{ThreadNo}
 use Rattle.cp_answers.specs.declared.answer.Answer.{Answer}
-use Rattle.cp_answers.specs.declared.answer.Answer.TheVariants as answer
-use Rattle.cp_ops.specs.declared.entry.Entry.{Entry}
-use Rattle.cp_ops.specs.declared.entry.Entry.TheVariants as entry
 use Rattle.cp_ops.specs.declared.op.Op.{Op}
-use Rattle.cp_events.specs.declared.effects.Effects.{Effects}
 use Rattle.cp_events.specs.declared.effects.Ignored.{Ignored}
-use Rattle.cp_events.specs.declared.effects.Return.{Return}
 use Rattle.cp_events.specs.declared.event.Event.{Event}
 use Rattle.cp_events.specs.declared.event.Event.TheVariants as event
 use Rattle.cp_events.specs.declared.plan.Plan.{Plan}
-use Rattle.cp_events.specs.declared.schedule.Schedule.{Schedule}
 use Rattle.cp_events.specs.declared.user_op.UserOp.{UserOp}
 use Rattle.cp_group_state.specs.declared.rows.LatchRow.{LatchRow}
-use Rattle.cp_group_state.specs.GroupState.{GroupState, empty}
-use Rattle.cp_group_state.specs.Apply.{Applied, apply, run}
-use Rattle.cp_group_state.specs.History.{Given, IsOrderly, answers_of, given_from}
 use Rattle.cp_group_state.proofs.Walk.{either}
-use Rattle.cp_group_state.proofs.Once.{acts-once}
-use Rattle.cp_group_state.proofs.Fences.{fences-rise}
-use Rattle.cp_group_state.proofs.Answered.{fences-stand}
 use Rattle.cp_group_state.proofs.Ordered.{order-empty}
-use Rattle.cp_causes.specs.Causes.{HasCause}
-use Rattle.cp_causes.proofs.Lists.{at-head, at-tail, get-contains, get-in, map-in, mapped, no-element}
-use Rattle.cp_causes.proofs.Caused.{have-causes}
+use Rattle.cp_causes.proofs.Lists.{at-head, at-tail, no-element}
 use Rattle.cp_client_rules.specs.declared.rows.OwnSession.{OwnSession}
 use Rattle.cp_client_rules.specs.declared.rows.HoldRecord.{HoldRecord}
 use Rattle.cp_client_rules.specs.declared.rows.Pending.{Pending}
-use Rattle.cp_client_rules.specs.Asking.{wish_of}
-use Rattle.cp_client_rules.specs.Clients.{Client, Did, LockKey, thread_at}
-use Rattle.cp_client_rules.specs.Calls.{call_client, patience}
+use Rattle.cp_client_rules.specs.Clients.{LockKey, thread_at}
+use Rattle.cp_client_rules.specs.Calls.{call_client}
 use Rattle.cp_client_rules.specs.Answers.{answer_client}
 use Rattle.cp_client_rules.specs.Ticks.{tick_client}
-use Rattle.cp_run.specs.Rows.{Called, Committed, End, Moved, Request, Returned, entries_of}
-use Rattle.cp_run.specs.World.{World, begin, calls_if_idle, calls_now, client_at, client_of, close, does, hand_all, hand_on, handed, ignore, is_client, moves_if_room, moves_now, new_world, shows_nothing, start, world_after, world_step}
-use Rattle.cp_run.specs.Execution.{Execution, Outcomes, events_of, executed, execution_of}
-use Rattle.cp_run.specs.Promises.{IsAnswerOfHistory, IsBeat, IsCommittedAt, IsEntryOfRequest, IsExplained, IsInRealTime, IsRequestOfCall, TookPlace}
-use Rattle.cp_run.specs.Returns.{EndedBy, IsOnLock, IsTold, LostOwnership, PassedDeadline, answered, at_once, clock_after, late, lost, request_of}
-use Rattle.cp_run.specs.Headline.{Headline, IsPrompt}
-use Rattle.cp_run.proofs.Lists.{entries-length, get-map, get-some}
-use Rattle.cp_run.proofs.Ledgers.{ClientOk, Extends, Fenced, HoldOk, IsSourced, OnLock, OpenedIn, ToldBy, by_call, by_clock, by_end, by_loss, client-on, ledger_of, source-on, told-on}
-use Rattle.cp_run.proofs.Good.{AnsweredBy, Entered, Given as GivenTo, Good, entered-on}
+use Rattle.cp_run.specs.Rows.{Called, Committed, Moved, Request}
+use Rattle.cp_run.specs.World.{World, begin, calls_if_idle, client_at, client_of, close, hand_all, hand_on, handed, ignore, is_client, moves_now, new_world, start, world_after, world_step}
+use Rattle.cp_run.proofs.Ledgers.{Extends, HoldOk, OpenedIn, client-on, ledger_of, source-on, told-on}
+use Rattle.cp_run.proofs.Good.{AnsweredBy, Entered, Given as GivenTo, Good}
 use Rattle.cp_run.proofs.Does.{does-given, does-good}
 use Rattle.cp_run.proofs.Clients.{call-ok}
 use Rattle.cp_run.proofs.Answers.{answer-ok, tick-ok}

@@ -1,11 +1,10 @@
 -- After an event no answer waits to be handed on, and no request is open that only prepares a call.
-use Rattle.std.proofs.Common.{is_some, ◌≡◌, ℕ, ◌+◌, ◌-◌, ◌*◌, ◌^◌, ◌≤◌, ◌⊎◌, inl, inr, Bool, true, false, List, [], ◌∷◌, ◌++◌, Some, None, Option, refl, sym, subst, ap, ◌∙◌, arith, length, le_refl, le_trans, if◌then◌else◌, suc, map}
+use Rattle.std.proofs.Common.{is_some, ◌≡◌, ℕ, ◌+◌, ◌*◌, ◌^◌, ◌≤◌, ◌⊎◌, inl, inr, Bool, true, false, List, [], ◌∷◌, ◌++◌, Some, None, Option, refl, sym, subst, ap, ◌∙◌, arith, length, le_refl, if◌then◌else◌, suc}
 use Rattle.std.specs.Prelude.{Contains, nat_lt, ◌==◌, unsigned_abs}
 use Rattle.std.specs.Ordering.{nat_cmp, is_eq}
 use Rattle.std.specs.BTreeMap.{is_at}
-use Rattle.std.specs.Map.{remove_entry}
 use Rattle.std.proofs.lemmas.Bool.Decides.{nat_tests}
-use Rattle.std.proofs.lemmas.List.{length-append, length_push}
+use Rattle.std.proofs.lemmas.List.{length_push}
 use Rattle.std.proofs.lemmas.List.Elements.{Contains-append_right}
 use Rattle.cp_base.specs.Identifiers.{replay_id}
 use Rattle.cp_base.specs.declared.identifier.ClientId.{ClientId}
@@ -24,7 +23,6 @@ use Rattle.cp_ops.specs.declared.session_op.SessionOp.TheVariants as session
 use Rattle.cp_events.specs.declared.event.Event.{Event}
 use Rattle.cp_events.specs.declared.event.Event.TheVariants as event
 use Rattle.cp_events.specs.declared.plan.Plan.{Plan}
-use Rattle.cp_events.specs.declared.user_op.LatchCall.TheVariants as latch_call
 use Rattle.cp_events.specs.declared.user_op.UserOp.{UserOp}
 use Rattle.cp_events.specs.declared.user_op.UserOp.TheVariants as user
 use Rattle.cp_group_state.specs.declared.rows.SessionRow.{SessionRow}
@@ -48,14 +46,14 @@ use Rattle.cp_client_rules.specs.declared.rows.Task.{Task}
 use Rattle.cp_client_rules.specs.declared.rows.Task.TheVariants as task
 use Rattle.cp_client_rules.specs.declared.rows.Thread.{Thread}
 use Rattle.cp_client_rules.specs.Asking.{Need, Nothing, HoldingSession, ItsSession, SessionToClose, Round, default_group, group_of, need_of, wish_of}
-use Rattle.cp_client_rules.specs.Clients.{Asked, Client, Did, LockKey, Sessions, and_then, ask, done_at_once, id_of, idle, lock_cmp, next_request, nothing, session_in_group, thread_at, with_thread}
+use Rattle.cp_client_rules.specs.Clients.{Asked, Client, Did, Sessions, and_then, ask, done_at_once, id_of, idle, lock_cmp, next_request, nothing, session_in_group, thread_at, with_thread}
 use Rattle.cp_client_rules.specs.Clients as clients
 use Rattle.cp_client_rules.specs.Sessions.{forget_session, forgets, has_session, is_session, sessions_after, with_session}
-use Rattle.cp_client_rules.specs.Calls.{Call, ask_itself, by_need, call_client, closing, deadline_of, go_on, holding_session, in_session, or_own, pending_of}
+use Rattle.cp_client_rules.specs.Calls.{Call, ask_itself, by_need, call_client, closing, deadline_of, holding_session, in_session, or_own, pending_of}
 use Rattle.cp_client_rules.specs.Answers.{answer_client, call_in, finished, on_pending, on_task, prepared}
 use Rattle.cp_client_rules.specs.Ticks.{beat, beat_each, beat_if_due, beats, end_each, end_late, is_due, is_late, own_thread, tick_client, user_threads}
 use Rattle.cp_run.specs.Rows.{Committed}
-use Rattle.cp_run.specs.World.{World, begin, calls_if_idle, calls_now, client_at, client_of, close, commit, commit_all, does, hand_all, hand_on, handed, is_client, moves_if_room, moves_now, new_world, note, or_new, shows_nothing, start, world_after, world_step}
+use Rattle.cp_run.specs.World.{World, begin, calls_if_idle, client_at, client_of, commit, commit_all, does, hand_all, hand_on, handed, is_client, moves_if_room, moves_now, new_world, note, or_new, start, world_after, world_step}
 use Rattle.cp_run.specs.Promises.{needs_session}
 use Rattle.cp_run.specs.Laws.{IsSettled, is_for_itself}
 use Rattle.cp_run.proofs.Lists.{push-none}
@@ -230,7 +228,7 @@ commits-clients : (asked : List Asked) (w : World) → (commit_all asked w).clie
 commits-clients [] w = refl
 commits-clients (a ∷ asked) w = commits-clients asked (commit a w)
 
-at-client : (w : World) (me : ClientNo) (d : Did) (P : ClientNo → Client → Type 0) → P me d.client → ((x : ClientNo) → is_at (nat_cmp x.0) me.0 ≡ false → P x (client_at w x)) → (x : ClientNo) → P x (client_at (does me d w) x)
+pub at-client : (w : World) (me : ClientNo) (d : Did) (P : ClientNo → Client → Type 0) → P me d.client → ((x : ClientNo) → is_at (nat_cmp x.0) me.0 ≡ false → P x (client_at w x)) → (x : ClientNo) → P x (client_at (does me d w) x)
 at-client w me d P mine others x = subst (λ rows. P x (or_new (find nat_cmp rows x.0))) (sym (commits-clients d.asked (note me d w))) (by (is_at (nat_cmp x.0) me.0) refl) where
   by : (b : Bool) → is_at (nat_cmp x.0) me.0 ≡ b → P x (or_new (find nat_cmp (put nat_cmp w.clients me.0 d.client) x.0))
   by true e = let same : x ≡ me = ap (λ n. record { 0 = n }) (number_key.same x.0 me.0 (equal_is _ e)) in
@@ -238,7 +236,7 @@ at-client w me d P mine others x = subst (λ rows. P x (or_new (find nat_cmp row
   by false e = subst (λ o. P x (or_new o)) (sym (find-put_other nat_cmp number_key w.clients me.0 x.0 d.client e)) (others x e)
 
 -- how many entries a step makes
-commits-grow : (asked : List Asked) (w : World) → length (commit_all asked w).history ≡ length w.history + length asked
+pub commits-grow : (asked : List Asked) (w : World) → length (commit_all asked w).history ≡ length w.history + length asked
 commits-grow [] w = omega arith
 commits-grow (a ∷ asked) w = let e = commits-grow asked (commit a w) in let l : length (w.history ++ record { event = w.shown.number; entry = entry.Call a.call a.op } ∷ []) ≡ length w.history + 1 = length_push w.history (record { event = w.shown.number; entry = entry.Call a.call a.op }) in omega (arith, e, l)
 

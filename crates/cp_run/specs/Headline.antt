@@ -1,7 +1,6 @@
 -- What is promised of each execution.
-use Rattle.std.specs.Prelude.{◌≡◌, ◌+◌, ◌⊎◌, ℕ, Some, List, map, slice_get, Contains}
+use Rattle.std.specs.Prelude.{◌≡◌, ◌+◌, ◌⊎◌, ℕ, Some, map, slice_get, Contains}
 use Rattle.cp_base.specs.declared.identifier.ClientNo.{ClientNo}
-use Rattle.cp_base.specs.declared.identifier.Invocation.{Invocation}
 use Rattle.cp_events.specs.declared.effects.Effects.{Effects}
 use Rattle.cp_events.specs.declared.effects.Return.{Return}
 use Rattle.cp_events.specs.declared.plan.Plan.{Plan}

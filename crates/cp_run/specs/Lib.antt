@@ -4,4 +4,5 @@ pub mod Execution
 pub mod Promises
 pub mod Returns
 pub mod Headline
+pub mod Bounds
 pub mod Laws

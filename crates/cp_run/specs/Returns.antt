@@ -1,5 +1,5 @@
 -- What a return tells, and why.
-use Rattle.std.specs.Prelude.{◌≡◌, ◌≤◌, ◌<◌, ◌+◌, ℕ, Some, None, Option, List, [], ◌∷◌, if◌then◌else◌, nat_le, Contains, ◌&&◌, is_none, ◌==◌}
+use Rattle.std.specs.Prelude.{◌≡◌, ◌≤◌, ◌<◌, ◌+◌, ℕ, Some, Option, List, [], ◌∷◌, if◌then◌else◌, nat_le, Contains, ◌&&◌, is_none, ◌==◌}
 use Rattle.cp_base.specs.Identifiers.{replay_id}
 use Rattle.cp_base.specs.declared.identifier.ClientNo.{ClientNo}
 use Rattle.cp_base.specs.declared.identifier.Invocation.{Invocation}

@@ -2,7 +2,7 @@
 //! functions below state laws.
 #![tactic(auto)]
 
-ghost use Rattle.cp_run.specs.Laws.{HeadlineHolds, NothingWaits, RunsArePrompt};
+ghost use Rattle.cp_run.specs.Laws.{ClientsStayWithin, HeadlineHolds, NothingWaits, RunsArePrompt};
 
 /// The promises hold of each schedule's execution.
 pub fn headline_holds()
@@ -17,4 +17,10 @@ pub fn runs_are_prompt()
 /// After each event no answer waits to be handed on, and no request is open that only prepares a call.
 pub fn nothing_waits()
     ensures { NothingWaits }
+{}
+
+/// The numbers of requests, and the counts of holds, are at most the number of entries and events; clocks are at most
+/// 2^62. So it is at the begin of an event, and whenever an answer was handed on.
+pub fn clients_stay_within_bounds()
+    ensures { ClientsStayWithin }
 {}
