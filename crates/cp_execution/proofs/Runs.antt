@@ -10,9 +10,9 @@ use Rattle.cp_long_ops.specs.declared.user_op.UserOp.{UserOp}
 use Rattle.cp_long_ops.specs.declared.user_op.UserOp.TheVariants as user
 use Rattle.cp_long_ops.specs.Ops.{requested}
 use Rattle.cp_execution.specs.Group.{GroupState, Reply, apply}
-use Rattle.cp_schedule.specs.declared.schedule.Event.{Event}
-use Rattle.cp_schedule.specs.declared.schedule.Event.TheVariants as event
-use Rattle.cp_schedule.specs.declared.schedule.Schedule.{Schedule}
+use Rattle.cp_long_schedule.specs.declared.schedule.Event.{Event}
+use Rattle.cp_long_schedule.specs.declared.schedule.Event.TheVariants as event
+use Rattle.cp_long_schedule.specs.declared.schedule.Schedule.{Schedule}
 use Rattle.cp_execution.specs.Execution.{World, Request, Effects, Outcomes, IsAllowed, first, next_event, invocation_of, return_of, ended_at, world_step, world_after, execution_of}
 use Rattle.cp_execution.specs.Headline.{Headline, IsPrompt}
 use Rattle.cp_execution.proofs.Lists.{no_element, nothing_at, push_cases, get_push, length_push, map_length, append_nil}

@@ -10,8 +10,8 @@ use Rattle.cp_long_ops.specs.declared.entry.Entry.{Entry}
 use Rattle.cp_long_ops.specs.declared.entry.Entry.TheVariants as entry
 use Rattle.cp_long_ops.specs.declared.user_op.UserOp.{UserOp}
 use Rattle.cp_long_ops.specs.Ops.{requested}
-use Rattle.cp_schedule.specs.declared.schedule.Event.{Event}
-use Rattle.cp_schedule.specs.declared.schedule.Event.TheVariants as event
+use Rattle.cp_long_schedule.specs.declared.schedule.Event.{Event}
+use Rattle.cp_long_schedule.specs.declared.schedule.Event.TheVariants as event
 use Rattle.cp_execution.specs.Group.{Reply, Applied, empty, apply}
 use Rattle.cp_execution.specs.History.{Committed, Given, given_at, answers_of}
 use Rattle.cp_execution.specs.Execution.{Request, Ended, Return, Effects, World, next_event, ended_at, return_of, invocation_of, world_step}

@@ -8,9 +8,9 @@ use Rattle.cp_long_ops.specs.declared.op.Op.{Op}
 use Rattle.cp_long_ops.specs.declared.answer.Answer.{Answer}
 use Rattle.cp_long_ops.specs.declared.entry.Entry.TheVariants as entry
 use Rattle.cp_long_ops.specs.Ops.{requested}
-use Rattle.cp_schedule.specs.declared.schedule.Event.{Event}
-use Rattle.cp_schedule.specs.declared.schedule.Event.TheVariants as event
-use Rattle.cp_schedule.specs.declared.schedule.Schedule.{Schedule}
+use Rattle.cp_long_schedule.specs.declared.schedule.Event.{Event}
+use Rattle.cp_long_schedule.specs.declared.schedule.Event.TheVariants as event
+use Rattle.cp_long_schedule.specs.declared.schedule.Schedule.{Schedule}
 use Rattle.cp_execution.specs.Group.{GroupState, Reply, empty, apply}
 use Rattle.cp_execution.specs.History.{Committed}
 

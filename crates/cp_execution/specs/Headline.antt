@@ -6,8 +6,8 @@ use Rattle.cp_base.specs.Identifiers.{replay_id}
 use Rattle.cp_long_ops.specs.declared.entry.Entry.TheVariants as entry
 use Rattle.cp_long_ops.specs.declared.user_op.UserOp.{UserOp}
 use Rattle.cp_long_ops.specs.Ops.{requested}
-use Rattle.cp_schedule.specs.declared.schedule.Event.TheVariants as event
-use Rattle.cp_schedule.specs.declared.schedule.Schedule.{Schedule}
+use Rattle.cp_long_schedule.specs.declared.schedule.Event.TheVariants as event
+use Rattle.cp_long_schedule.specs.declared.schedule.Schedule.{Schedule}
 use Rattle.cp_execution.specs.History.{Committed, Given, IsOrderly, answers_of}
 use Rattle.cp_execution.specs.Execution.{Request, Ended, Return, Effects, Execution}
 

@@ -4,8 +4,8 @@ use Rattle.std.specs.List.{flat_map}
 use Rattle.std.specs.Fmt.{decimal}
 use Rattle.cp_words.specs.Text.{line}
 use Rattle.cp_long_ops.specs.Ops.{answer_text, entry_text}
-use Rattle.cp_schedule.specs.declared.schedule.Event.{Event}
-use Rattle.cp_schedule.specs.Schedules.{event_text}
+use Rattle.cp_long_schedule.specs.declared.schedule.Event.{Event}
+use Rattle.cp_long_schedule.specs.Schedules.{event_text}
 use Rattle.cp_execution.specs.History.{Committed}
 use Rattle.cp_execution.specs.Execution.{Return, Effects, Execution}
 

@@ -3,7 +3,7 @@
 #![tactic(auto)]
 
 ghost use Rattle.std.specs.Prelude.{◌≤◌, ◌^◌, length};
-ghost use Rattle.cp_schedule.specs.declared.schedule.Schedule.{Schedule};
+ghost use Rattle.cp_long_schedule.specs.declared.schedule.Schedule.{Schedule};
 ghost use Rattle.cp_execution.specs.Execution.{IsAllowed, Outcomes, execution_of};
 ghost use Rattle.cp_execution.specs.Headline.{Headline, IsPrompt};
 

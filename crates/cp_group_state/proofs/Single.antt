@@ -129,7 +129,7 @@ pub always-one_session : (es : List Entry) → Always (λ s. OneSession s.sessio
 always-one_session es = always (λ s. OneSession s.sessions) one-apply 1 es empty none-at-first
 
 -- One wait
-stands-filter : (call : Invocation) (test : Waiter → Bool) (ws : List Waiter) → stands call ws ≡ false → stands call (filter test ws) ≡ false
+pub stands-filter : (call : Invocation) (test : Waiter → Bool) (ws : List Waiter) → stands call ws ≡ false → stands call (filter test ws) ≡ false
 stands-filter call test [] h = refl
 stands-filter call test (w ∷ ws) h = at (test w) (same_call call w.call) refl h (stands-filter call test ws)
   where
@@ -138,18 +138,18 @@ stands-filter call test (w ∷ ws) h = at (test w) (same_call call w.call) refl 
     at true false e h rest = rw e (rest h)
     at false false e h rest = rest h
 
-differ-filter : (test : Waiter → Bool) (ws : List Waiter) → CallsDiffer ws → CallsDiffer (filter test ws)
+pub differ-filter : (test : Waiter → Bool) (ws : List Waiter) → CallsDiffer ws → CallsDiffer (filter test ws)
 differ-filter test [] h = tt
 differ-filter test (w ∷ ws) h = either CallsDiffer (test w) (w ∷ filter test ws) (filter test ws) (stands-filter w.call test ws h.0, differ-filter test ws h.1) (differ-filter test ws h.1)
 
-apart-back : (a b : Invocation) → same_call a b ≡ false → same_call b a ≡ false
+pub apart-back : (a b : Invocation) → same_call a b ≡ false → same_call b a ≡ false
 apart-back a b h = at (same_call b a) refl
   where
     at : (c : Bool) → same_call b a ≡ c → same_call b a ≡ false
     at true e = absurd (no_true (sym (subst (λ c. same_call a c ≡ true) (sym (same-call b a e)) (same_call_itself a)) ∙ h))
     at false e = e
 
-stands-push : (call : Invocation) (ws : List Waiter) (v : Waiter) → stands call ws ≡ false → same_call call v.call ≡ false → stands call (ws ++ v ∷ []) ≡ false
+pub stands-push : (call : Invocation) (ws : List Waiter) (v : Waiter) → stands call ws ≡ false → same_call call v.call ≡ false → stands call (ws ++ v ∷ []) ≡ false
 stands-push call [] v h e = rw e
 stands-push call (w ∷ ws) v h e = at (same_call call w.call) refl h (stands-push call ws v)
   where
@@ -157,7 +157,7 @@ stands-push call (w ∷ ws) v h e = at (same_call call w.call) refl h (stands-pu
     at true x h rest = absurd (no_true h)
     at false x h rest = rw x (rest h e)
 
-differ-push : (ws : List Waiter) (v : Waiter) → stands v.call ws ≡ false → CallsDiffer ws → CallsDiffer (ws ++ v ∷ [])
+pub differ-push : (ws : List Waiter) (v : Waiter) → stands v.call ws ≡ false → CallsDiffer ws → CallsDiffer (ws ++ v ∷ [])
 differ-push [] v s h = (refl, tt)
 differ-push (w ∷ ws) v s h = at (same_call v.call w.call) refl s (λ k. differ-push ws v k h.1)
   where

@@ -6,8 +6,8 @@ use Rattle.cp_base.specs.declared.identifier.ThreadNo.{ThreadNo}
 use Rattle.cp_long_ops.specs.declared.entry.Entry.TheVariants as entry
 use Rattle.cp_long_ops.specs.declared.user_op.UserOp.{UserOp}
 use Rattle.cp_long_ops.specs.Ops.{requested}
-use Rattle.cp_schedule.specs.declared.schedule.Event.{Event}
-use Rattle.cp_schedule.specs.declared.schedule.Event.TheVariants as event
+use Rattle.cp_long_schedule.specs.declared.schedule.Event.{Event}
+use Rattle.cp_long_schedule.specs.declared.schedule.Event.TheVariants as event
 use Rattle.cp_execution.specs.Group.{Applied, apply}
 use Rattle.cp_execution.specs.History.{Committed}
 use Rattle.cp_execution.specs.Execution.{World, Effects, Return, invocation_of, world_step, world_after, next_event, return_of, ended_at}

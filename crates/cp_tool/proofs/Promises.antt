@@ -2,8 +2,8 @@
 use Rattle.std.proofs.Common.{◌≡◌, ◌≤◌, ℕ, List, ◌++◌, Option, Some, None, length, sym, ◌∙◌, ap, subst, arith}
 use Rattle.std.specs.Prelude.{IfSome}
 use Rattle.std.specs.Io.KnownBytes.{Appends, Consumes, IsAtEnd}
-use Rattle.cp_schedule.specs.declared.schedule.Schedule.{Schedule}
-use Rattle.cp_schedule.specs.Schedules.{Spells}
+use Rattle.cp_long_schedule.specs.declared.schedule.Schedule.{Schedule}
+use Rattle.cp_long_schedule.specs.Schedules.{Spells}
 use Rattle.cp_execution.specs.Execution.{Settled, execution_of}
 use Rattle.cp_execution.specs.Transcript.{transcript_of}
 use Rattle.cp_execution.proofs.Lists.{append_nil}

@@ -2,8 +2,8 @@
 use Rattle.std.specs.Prelude.{◌≡◌, ℕ, List, [], ◌∷◌, codes, Option}
 use Rattle.std.specs.Io.KnownBytes.{Appends}
 use Rattle.cp_words.specs.Faults.{AppendsFront}
-use Rattle.cp_schedule.specs.declared.schedule.Schedule.{Schedule}
-use Rattle.cp_schedule.specs.Schedules.{Spells}
+use Rattle.cp_long_schedule.specs.declared.schedule.Schedule.{Schedule}
+use Rattle.cp_long_schedule.specs.Schedules.{Spells}
 use Rattle.cp_execution.specs.Execution.{Outcomes, IsAllowed, execution_of}
 use Rattle.cp_execution.specs.Transcript.{transcript_of}
 use Rattle.cp_execution.specs.Headline.{Headline, IsPrompt}

@@ -1,7 +1,7 @@
 //! Runs a schedule without members, and makes its transcript.
 ghost use Rattle.std.specs.Prelude.{◌≡◌, ◌<◌, ◌+◌, ◌^◌, ◌++◌, ◌∷◌, ℕ, length, OnOk, IfOk};
 ghost use Rattle.std.specs.Fmt.{decimal};
-ghost use Rattle.cp_schedule.specs.declared.schedule.Event.TheVariants.{Call};
+ghost use Rattle.cp_long_schedule.specs.declared.schedule.Event.TheVariants.{Call};
 ghost use Rattle.cp_execution.specs.Execution.{Settled, World, execution_of, first, world_step};
 ghost use Rattle.cp_execution.specs.Group.{apply};
 ghost use Rattle.cp_tool.specs.Replays.{Follows, IsCall, answered};
@@ -9,8 +9,8 @@ ghost use Rattle.cp_execution.specs.Transcript.{committed_line, event_line, retu
 
 use cp_base::{ClientId, ClientNo, Invocation, NoMemory, Text, ThreadNo, write_decimal};
 use cp_long_ops::{Answer, Entry, Op, UserOp};
+use cp_long_schedule::{Event, Schedule};
 use cp_longs::Longs;
-use cp_schedule::{Event, Schedule};
 use std::alloc::Global;
 
 /// The world of a replay: the last event, the number of the thread's last request, the state of the group, the lines

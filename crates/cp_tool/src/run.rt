@@ -2,8 +2,8 @@
 ghost use Rattle.std.specs.Prelude.{◌≡◌, ◌↔◌, ◌≤◌, ◌⊎◌, ℕ, codes, length, map, string_bytes, IfSome, IsTrue};
 ghost use Rattle.std.specs.Io.KnownBytes.{IsAtEnd};
 ghost use Rattle.cp_words.specs.Faults.{Exceeds, Rose};
-ghost use Rattle.cp_schedule.specs.Faults.{IsScheduleFault};
-ghost use Rattle.cp_schedule.specs.declared.reading.ScheduleError.{ScheduleError};
+ghost use Rattle.cp_long_schedule.specs.Faults.{IsScheduleFault};
+ghost use Rattle.cp_long_schedule.specs.declared.reading.ScheduleError.{ScheduleError};
 ghost use Rattle.cp_tool.specs.Runs.{IsAfterReading, IsBeforeWrites, IsReplay, Replays, ReplaysFront};
 
 use crate::reading::{ReadEnd, read_all};
@@ -11,7 +11,7 @@ use crate::replaying::transcript;
 use crate::status::Status;
 use crate::traits::{Fault, Sink, Source};
 use crate::writing::write_all;
-use cp_schedule::ScheduleError;
+use cp_long_schedule::ScheduleError;
 use std::alloc::Global;
 
 fn is_word_replay(word: &str) -> bool
@@ -66,7 +66,7 @@ pub fn run<S: Source, K: Sink>(
         Err(ReadEnd::TooLong) => return Status::TooLong,
         Err(ReadEnd::NoMemory) => return Status::NoMemory,
     };
-    let schedule = match cp_schedule::read(alloc, &bytes) {
+    let schedule = match cp_long_schedule::read(alloc, &bytes) {
         Ok(schedule) => schedule,
         Err(ScheduleError::BadSchedule(line)) => return Status::BadSchedule(line),
         Err(ScheduleError::NotBuilt(line)) => return Status::NotBuilt(line),

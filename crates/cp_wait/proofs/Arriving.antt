@@ -11,7 +11,7 @@ use Rattle.cp_group_state.specs.declared.rows.Waiter.{Waiter}
 use Rattle.cp_group_state.proofs.Keyed.{no_true}
 use Rattle.cp_group_state.proofs.Latches.{same_call_itself}
 use Rattle.cp_group_state.proofs.Once.{same-call}
-use Rattle.cp_wait.proofs.Differing.{differ-push}
+use Rattle.cp_group_state.proofs.Single.{differ-push}
 use Rattle.cp_wait.specs.Arrivals.{has_call, with_call, without_call, calls_of, without_waiter}
 use Rattle.cp_wait.specs.Indexes.{IsIndex, Came, Went, Stayed, IsPartlyIndex, IsOnly}
 

@@ -1,4 +1,3 @@
-pub mod Differing
 pub mod Shelves
 pub mod Arriving
 pub mod Hits

@@ -16,7 +16,7 @@ use Rattle.cp_group_state.specs.declared.rows.Waiter.{Waiter}
 use Rattle.cp_group_state.proofs.Keyed.{no_true}
 use Rattle.cp_group_state.proofs.Latches.{same_call_itself}
 use Rattle.cp_group_state.proofs.Once.{same-call}
-use Rattle.cp_wait.proofs.Differing.{differ-filter, differ-push}
+use Rattle.cp_group_state.proofs.Single.{differ-filter, differ-push}
 use Rattle.cp_wait.specs.Arrivals.{calls_of, under_calls, waiter_of, without_waiter, is_of_thread}
 use Rattle.cp_wait.specs.Indexes.{IsIndexed, IsOnly, is_on, is_of_session}
 use Rattle.cp_wait.specs.Queues.{IsQueue, waiters_at, waiter_at, with_waiter, served_at, serve_first}
