@@ -14,4 +14,4 @@ mod tables;
 mod tests;
 
 pub use outcome::SemOutcome;
-pub use semaphores::Semaphores;
+pub use semaphores::{Semaphores, set_holding};

@@ -1,14 +1,15 @@
 //! The table of semaphores.
 ghost use Rattle.std.specs.Prelude.{◌≡◌, ◌<◌, ◌^◌, [], IfOk, OnOk, OnErr};
-ghost use Rattle.cp_group_state.specs.Semaphores.{all_back, sem_destroyed, sem_step, take_all};
+ghost use Rattle.cp_group_state.specs.Semaphores.{all_back, sem_destroyed, sem_step, set_held, take_all};
 ghost use Rattle.cp_semaphore.specs.Fitting.{Fits};
-ghost use Rattle.cp_semaphore.specs.Nested.{flat};
+ghost use Rattle.cp_semaphore.specs.Nested.{flat, IsNested};
 ghost use Rattle.cp_semaphore.specs.Outcomes.{IsOutcome, available_of};
 ghost use Rattle.cp_semaphore.specs.Serving.{AreServed};
+ghost use Rattle.cp_semaphore.specs.Tables.{IsSound};
 
 use crate::outcome::SemOutcome;
 use crate::tables::{self, Tables};
-use crate::{closing, rows, serving, steps};
+use crate::{closing, holdings, rows, serving, steps};
 use cp_base::{Name, NoMemory};
 use cp_group_state::{SemaphoreRow, Waiter};
 use cp_ops::{Kind, SemOp};
@@ -53,6 +54,23 @@ fn known(op: &SemOp)
     }
 }
 
+/// A session holds so many permits of the semaphore of a name, in holdings of which a table can be made. Where memory
+/// runs out, all holdings stay.
+pub fn set_holding(
+    holdings: &mut BTreeMap<u64, BTreeMap<Name, u64>>,
+    alloc: Global,
+    session: u64,
+    name: &Name,
+    permits: u64,
+) -> Result<(), NoMemory>
+    requires { IsNested holdings.old.entries }
+    ensures ok { OnOk result (flat holdings.new.entries ≡ set_held (flat holdings.old.entries) session name.now permits) }
+    ensures err { OnErr result (flat holdings.new.entries ≡ flat holdings.old.entries) }
+    ensures nested { IsNested holdings.new.entries }
+{
+    holdings::set(holdings, alloc, session, name, permits)
+}
+
 impl Semaphores {
     /// The table without semaphores.
     pub fn new(alloc: Global) -> Result<Semaphores, NoMemory>
@@ -65,6 +83,25 @@ impl Semaphores {
                 holdings: BTreeMap::new(alloc),
             },
         })
+    }
+
+    /// The table of these rows, and of what each session holds under each name.
+    pub fn from_maps(
+        alloc: Global,
+        rows: BTreeMap<(Name, Kind), SemaphoreRow>,
+        holdings: BTreeMap<u64, BTreeMap<Name, u64>>,
+    ) -> Semaphores
+        requires nested { IsNested holdings.entries }
+        requires sound { IsSound (record { rows = rows.entries; holdings = flat holdings.entries }) }
+        ensures { result ≡ record { rows = rows.entries; holdings = flat holdings.entries } }
+    {
+        Semaphores {
+            tables: Tables {
+                alloc,
+                rows,
+                holdings,
+            },
+        }
     }
 
     /// The rows, by name and kind.

@@ -1,0 +1,3 @@
+pub mod RuleCases
+pub mod Stood
+pub mod Chains
