@@ -1,0 +1,2 @@
+pub mod SignedWords
+pub mod HexWords
