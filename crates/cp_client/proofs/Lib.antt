@@ -1,0 +1,6 @@
+pub mod Steps
+pub mod Over
+pub mod Cases
+pub mod Rooms
+pub mod Taken
+pub mod Fronts
