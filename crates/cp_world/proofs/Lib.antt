@@ -1,0 +1,5 @@
+pub mod Growing
+pub mod Leading
+pub mod Taking
+pub mod Events
+pub mod Parts

@@ -1,0 +1,59 @@
+-- The code's world as one of the definitions.
+use Rattle.std.specs.Prelude.{◌≡◌, ℕ, List, [], ◌∷◌, ◌++◌, length, map}
+use Rattle.std.specs.Ordering.{nat_cmp}
+use Rattle.cp_base.specs.declared.identifier.ClientNo.{ClientNo}
+use Rattle.cp_ops.specs.declared.entry.Entry.{Entry}
+use Rattle.cp_events.specs.declared.effects.Effects.{Effects}
+use Rattle.cp_events.specs.declared.event.Event.{Event}
+use Rattle.cp_events.specs.declared.plan.Plan.{Plan}
+use Rattle.cp_group_state.specs.Rows.{put}
+use Rattle.cp_client_rules.specs.Clients.{Client}
+use Rattle.cp_run.specs.Rows.{Committed}
+use Rattle.cp_run.specs.World as rules
+use Rattle.cp_world.specs.declared.turn.Turn.{Turn}
+use Rattle.cp_world.specs.declared.world.World.{World}
+
+-- entries that one event committed
+abbrev pub committed_at : ℕ → List Entry → List Committed
+committed_at event entries = map (λ e. record { event = event; entry = e }) entries
+
+-- The group, the queue, what the event under way shows so far, and what it committed since the world before it.
+pub record HasRest (before : rules.World) (e : Event) (w : rules.World) (world : World) (turn : Turn) : Type 0 where
+  pub state : world.tables ≡ w.state
+  pub entries : world.entries ≡ length w.history
+  pub events : world.events ≡ length w.effects
+  pub effects_are : w.effects ≡ before.effects
+  pub queue : world.queue ≡ w.queue
+  pub shown : w.shown ≡ record { number = turn.number; event = e; ignored = turn.ignored; opened = turn.opened; returns = turn.returns }
+  pub history : w.history ≡ before.history ++ committed_at turn.number turn.entries
+
+-- The world between events.
+pub record Follows (w : rules.World) (world : World) : Type 0 where
+  pub clients : world.clients.entries ≡ w.clients
+  pub state : world.tables ≡ w.state
+  pub entries : world.entries ≡ length w.history
+  pub events : world.events ≡ length w.effects
+  pub queue : world.queue ≡ w.queue
+
+-- What an event leaves: the world after it, what it shows, and the entries that it committed.
+pub record IsStep (plan : Plan) (event : Event) (w : rules.World) (world : World) (effects : Effects) (entries : List Entry) : Type 0 where
+  pub follows : Follows (rules.world_step plan w event) world
+  pub effects_are : (rules.world_step plan w event).effects ≡ w.effects ++ effects ∷ []
+  pub history : (rules.world_step plan w event).history ≡ w.history ++ committed_at effects.number entries
+
+-- The world while an event is under way.
+pub record Goes (before : rules.World) (e : Event) (w : rules.World) (world : World) (turn : Turn) : Type 0 where
+  pub clients : world.clients.entries ≡ w.clients
+  pub rest : HasRest before e w world turn
+
+-- The same, whatever the code has of this client.
+pub record GoesBut (me : ClientNo) (before : rules.World) (e : Event) (w : rules.World) (world : World) (turn : Turn) : Type 0 where
+  pub clients : (c : Client) → put nat_cmp world.clients.entries me.0 c ≡ put nat_cmp w.clients me.0 c
+  pub rest : HasRest before e w world turn
+
+-- The code does what the definition does.
+pub record Leads (f : rules.World → rules.World) (world : World) (turn : Turn) (after : World) (later : Turn) : Type 0 where
+  pub leads : (before : rules.World) (e : Event) (w : rules.World) → Goes before e w world turn → Goes before e (f w) after later
+
+pub record LeadsBut (me : ClientNo) (f : rules.World → rules.World) (world : World) (turn : Turn) (after : World) (later : Turn) : Type 0 where
+  pub leads : (before : rules.World) (e : Event) (w : rules.World) → GoesBut me before e w world turn → Goes before e (f w) after later

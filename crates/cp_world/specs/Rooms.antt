@@ -1,0 +1,47 @@
+-- Worlds whose numbers may grow.
+use Rattle.std.specs.Prelude.{◌≡◌, ◌<◌, ◌+◌, ◌^◌, ℕ, List, [], length}
+use Rattle.cp_base.specs.declared.identifier.ClientNo.{ClientNo}
+use Rattle.cp_events.specs.declared.event.Event.{Event}
+use Rattle.cp_events.specs.declared.plan.Plan.{Plan}
+use Rattle.cp_client_rules.specs.Clients.{Client, Did}
+use Rattle.cp_client.specs.declared.output.ClientOut.{ClientOut}
+use Rattle.cp_client.specs.Steps.{Gives}
+use Rattle.cp_run.specs.Bounds.{AllWithin}
+use Rattle.cp_run.specs.World as rules
+use Rattle.cp_world.specs.declared.turn.Turn.{Turn}
+use Rattle.cp_world.specs.declared.world.World.{World}
+use Rattle.cp_world.specs.Following.{Follows, Goes, GoesBut}
+
+-- the history that a step leads to can be counted
+pub record CanCount (f : rules.World → rules.World) (world : World) (turn : Turn) : Type 0 where
+  pub before : rules.World
+  pub event : Event
+  pub w : rules.World
+  pub goes : Goes before event w world turn
+  pub few : length (f w).history < 2 ^ 62
+
+-- a client's step was taken, and the history that it leads to can be counted
+pub record CanCountDone (me : ClientNo) (client : Client) (out : ClientOut) (world : World) (turn : Turn) : Type 0 where
+  pub before : rules.World
+  pub event : Event
+  pub w : rules.World
+  pub did : Did
+  pub gives : Gives did client (record { asked = []; opened = []; returns = [] }) out
+  pub goes : GoesBut me before event w world turn
+  pub few : length (rules.does me did w).history < 2 ^ 62
+
+-- so can the numbers of the clients
+pub record HasRoomFor (f : rules.World → rules.World) (world : World) (turn : Turn) : Type 0 where
+  pub before : rules.World
+  pub event : Event
+  pub w : rules.World
+  pub goes : Goes before event w world turn
+  pub n : ℕ
+  pub within : AllWithin n w
+  pub few : length (f w).history + n < 2 ^ 62
+
+-- The world is that after some events, of which there may be more.
+pub record IsReached (plan : Plan) (world : World) : Type 0 where
+  pub events : List Event
+  pub follows : Follows (rules.world_after plan rules.new_world events) world
+  pub few : length events < 2 ^ 60

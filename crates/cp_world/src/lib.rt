@@ -1,0 +1,12 @@
+//! A world without members: clients, and the one group, whose history each request enters at once.
+#![tactic(auto)]
+
+mod clients;
+mod committing;
+mod copying;
+mod event;
+mod handing;
+mod turn;
+mod world;
+
+pub use world::World;

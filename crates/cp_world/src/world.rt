@@ -1,0 +1,55 @@
+//! The world of a schedule without members.
+ghost use Rattle.std.specs.Prelude.{◌≡◌, IfOk, OnOk};
+ghost use Rattle.cp_run.specs.World.{World as Rules, new_world};
+ghost use Rattle.cp_world.specs.Following.{Follows, IsStep};
+ghost use Rattle.cp_world.specs.Rooms.{IsReached};
+
+use crate::event;
+use cp_answers::Answer;
+use cp_base::{Invocation, Items, NoMemory};
+use cp_client::Client;
+use cp_events::{Effects, Event, Plan};
+use cp_group_tables::GroupTables;
+use cp_ops::Entry;
+use std::alloc::Global;
+use std::collections::BTreeMap;
+
+/// Clients, and the one group, whose history each request enters at once. After want of memory in a step, it is only
+/// dropped.
+#[derive(Drop)]
+pub struct World {
+    pub(crate) alloc: Global,
+    /// By number.
+    pub(crate) clients: BTreeMap<u8, Client>,
+    pub(crate) tables: GroupTables,
+    /// How many entries the history has.
+    pub(crate) entries: u64,
+    /// How many events are over.
+    pub(crate) events: u64,
+    /// The answers that wait to be handed on.
+    pub(crate) queue: Items<(Invocation, Answer)>,
+}
+
+impl World {
+    /// The world before the first event.
+    pub fn new(alloc: Global) -> Result<World, NoMemory>
+        ensures { IfOk result (λ world. Follows new_world world) }
+    {
+        Ok(World {
+            alloc,
+            clients: BTreeMap::new(alloc),
+            tables: GroupTables::new(alloc)?,
+            entries: 0,
+            events: 0,
+            queue: Items::new(alloc),
+        })
+    }
+
+    /// The next event: what it shows, and the entries that it committed.
+    pub fn step(&mut self, plan: &Plan, event: Event) -> Result<(Effects, Items<Entry>), NoMemory>
+        requires { IsReached plan.now self.old }
+        ensures { IfOk result (λ done. (w : Rules) → Follows w self.old → IsStep plan.now event w self.new done.0 done.1) }
+    {
+        event::step(self, plan, event)
+    }
+}
