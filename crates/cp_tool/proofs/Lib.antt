@@ -1,4 +1,5 @@
-pub mod Appending
 pub mod OneWord
-pub mod Following
+pub mod Beyond
+pub mod Stepping
+pub mod Limiting
 pub mod Promises

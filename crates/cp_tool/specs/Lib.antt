@@ -1,3 +1,3 @@
-pub mod Causes
-pub mod Replays
+pub mod Limits
+pub mod Running
 pub mod Runs

@@ -1,18 +1,13 @@
 //! The program `cp`.
 #![tactic(auto)]
 
-mod adapters;
-mod memory;
-mod reading;
-mod replaying;
 mod run;
+mod running;
 mod status;
 #[cfg(test)]
 mod tests;
-mod traits;
-mod writing;
 
-use adapters::{Reading, Writing};
+use cp_io::{Reading, Writing};
 use run::run;
 use status::Status;
 use std::env;

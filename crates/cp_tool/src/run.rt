@@ -1,17 +1,15 @@
 //! The top call.
-ghost use Rattle.std.specs.Prelude.{◌≡◌, ◌↔◌, ◌≤◌, ◌⊎◌, ℕ, codes, length, map, string_bytes, IfSome, IsTrue};
+ghost use Rattle.std.specs.Prelude.{◌≡◌, ◌↔◌, ◌≤◌, ◌⊎◌, ℕ, codes, length, map, string_bytes, IfSome, IsTrue, Err};
 ghost use Rattle.std.specs.Io.KnownBytes.{IsAtEnd};
 ghost use Rattle.cp_words.specs.Faults.{Exceeds, Rose};
-ghost use Rattle.cp_long_schedule.specs.Faults.{IsScheduleFault};
-ghost use Rattle.cp_long_schedule.specs.declared.reading.ScheduleError.{ScheduleError};
-ghost use Rattle.cp_tool.specs.Runs.{IsAfterReading, IsBeforeWrites, IsReplay, Replays, ReplaysFront};
+ghost use Rattle.cp_schedule.specs.Reading.{BadLine, NotBuilt, schedule_of};
+ghost use Rattle.cp_tool.specs.declared.status.LimitName.{LimitName};
+ghost use Rattle.cp_tool.specs.Runs.{IsAfterReading, IsBeforeWrites, IsReplay, Limits, Replays, ReplaysFront};
 
-use crate::reading::{ReadEnd, read_all};
-use crate::replaying::transcript;
+use crate::running::{Stop, transcript};
 use crate::status::Status;
-use crate::traits::{Fault, Sink, Source};
-use crate::writing::write_all;
-use cp_long_schedule::ScheduleError;
+use cp_io::{Fault, ReadEnd, Sink, Source, read_all, write_all};
+use cp_schedule::ScheduleError;
 use std::alloc::Global;
 
 fn is_word_replay(word: &str) -> bool
@@ -46,8 +44,9 @@ pub fn run<S: Source, K: Sink>(
     ensures unread { result ≡ Status.Usage → source.new ≡ source.old }
     ensures read_fault { result ≡ Status.ReadFault → Rose (S.faults source.old) (S.faults source.new) }
     ensures too_long { result ≡ Status.TooLong → Exceeds (S.left source.old) 16777216 }
-    ensures bad_schedule { (line : ℕ) → result ≡ Status.BadSchedule line → IfSome (S.left source.old) (IsScheduleFault (ScheduleError.BadSchedule line)) }
-    ensures not_built { (line : ℕ) → result ≡ Status.NotBuilt line → IfSome (S.left source.old) (IsScheduleFault (ScheduleError.NotBuilt line)) }
+    ensures bad_schedule { (line : ℕ) → result ≡ Status.BadSchedule line → IfSome (S.left source.old) (λ bytes. schedule_of bytes ≡ Err (BadLine line)) }
+    ensures not_built { (line : ℕ) → result ≡ Status.NotBuilt line → IfSome (S.left source.old) (λ bytes. schedule_of bytes ≡ Err (NotBuilt line)) }
+    ensures limit { (line : ℕ) (name : LimitName) → result ≡ Status.Limit line name → IfSome (S.left source.old) (Limits line name) }
     ensures write_fault { result ≡ Status.WriteFault → Rose (K.faults sink.old) (K.faults sink.new) }
 
     // What was read and written by then.
@@ -66,14 +65,16 @@ pub fn run<S: Source, K: Sink>(
         Err(ReadEnd::TooLong) => return Status::TooLong,
         Err(ReadEnd::NoMemory) => return Status::NoMemory,
     };
-    let schedule = match cp_long_schedule::read(alloc, &bytes) {
+    let schedule = match cp_schedule::read(alloc, &bytes) {
         Ok(schedule) => schedule,
         Err(ScheduleError::BadSchedule(line)) => return Status::BadSchedule(line),
         Err(ScheduleError::NotBuilt(line)) => return Status::NotBuilt(line),
         Err(ScheduleError::NoMemory) => return Status::NoMemory,
     };
-    let Ok(text) = transcript(alloc, schedule) else {
-        return Status::NoMemory;
+    let text = match transcript(alloc, schedule) {
+        Ok(text) => text,
+        Err(Stop::Limit(line, name)) => return Status::Limit(line, name),
+        Err(Stop::NoMemory) => return Status::NoMemory,
     };
     match write_all(sink, &text) {
         Ok(()) => Status::Done,

@@ -1,6 +1,24 @@
 //! How a call of the program ends.
 use std::fmt;
 
+/// A quantity that has a limit.
+#[derive(Clone, Copy, Debug, PartialEq, Eq)]
+pub enum LimitName {
+    /// Events: at most 100,000, each `settle` line counted as the events that it stands for.
+    Events,
+    /// Bytes of the transcript, with its histories, as if it ended with the last event: at most 256 MiB.
+    Transcript,
+}
+
+impl fmt::Display for LimitName {
+    fn fmt<W: fmt::Write>(&self, f: &mut fmt::Formatter<W>) -> fmt::Result {
+        match self {
+            LimitName::Events => write!(f, "events"),
+            LimitName::Transcript => write!(f, "transcript"),
+        }
+    }
+}
+
 /// How a call of the program ends.
 #[derive(Clone, Copy, Debug, PartialEq, Eq)]
 pub enum Status {
@@ -16,6 +34,8 @@ pub enum Status {
     BadSchedule(u64),
     /// This line is of no form that is built.
     NotBuilt(u64),
+    /// At the event of this line a quantity passed its limit.
+    Limit(u64, LimitName),
     /// The sink failed; a front of the text is written.
     WriteFault,
     /// There was no memory.
@@ -29,6 +49,7 @@ impl Status {
             Status::Done => 0,
             Status::Usage => 2,
             Status::BadSchedule(_) => 3,
+            Status::Limit(_, _) => 4,
             Status::ReadFault => 5,
             Status::WriteFault => 6,
             Status::NoMemory => 7,
@@ -48,6 +69,7 @@ impl fmt::Display for Status {
             Status::TooLong => write!(f, "cp: input too long"),
             Status::BadSchedule(line) => write!(f, "cp: line {line}: bad"),
             Status::NotBuilt(line) => write!(f, "cp: line {line}: not built"),
+            Status::Limit(line, name) => write!(f, "cp: line {line}: limit {name}"),
             Status::WriteFault => write!(f, "cp: write fault"),
             Status::NoMemory => write!(f, "cp: no memory"),
         }

@@ -1,8 +1,7 @@
 //! Runs of the top call over memory. What is expected was worked out by hand.
-use crate::memory::{MemorySink, MemorySource};
 use crate::run::run;
-use crate::status::Status;
-use crate::traits::{Failed, Source};
+use crate::status::{LimitName, Status};
+use cp_io::{Failed, MemorySink, MemorySource, Source};
 use std::alloc::Global;
 use std::test::Fail;
 
@@ -53,26 +52,6 @@ fn replayed(alloc: Global, bytes: &[u8]) -> Result<(Status, Vec<u8>), Fail> {
 }
 
 #[test]
-fn adds_and_reads_a_long(rt: HostRuntime) -> Result<(), Fail> {
-    let (status, text) = replayed(rt.alloc(), ADD)?;
-    assert_eq!(rt; status, Status::Done);
-    assert_eq!(rt; text.as_slice(), ADDED);
-    Ok(())
-}
-
-#[test]
-fn keeps_longs_apart_and_wraps(rt: HostRuntime) -> Result<(), Fail> {
-    let source =
-        b"cp 1\nmembers 0\nsize 1\nclients 1\ncall 1 1 long b get\ncall 1 1 long a add 9223372036854775807\ncall 1 1 long a add 1\ncall 1 1 long b add 1\ncall 1 1 long b add 1\nend\n";
-    let text =
-        b"cp 1 transcript\n0 open\n1 call 1 1 long b get\nreturn 1 1 1 value 0\n2 call 1 1 long a add 9223372036854775807\nreturn 1 1 2 value 9223372036854775807\n3 call 1 1 long a add 1\nreturn 1 1 3 value -9223372036854775808\n4 call 1 1 long b add 1\nreturn 1 1 4 value 1\n5 call 1 1 long b add 1\nreturn 1 1 5 value 2\nhistory 1\n1 1 call 1 1 1 long b get\n2 2 call 1 1 2 long a add 9223372036854775807\n3 3 call 1 1 3 long a add 1\n4 4 call 1 1 4 long b add 1\n5 5 call 1 1 5 long b add 1\nend\n";
-    let (status, written) = replayed(rt.alloc(), source)?;
-    assert_eq!(rt; status, Status::Done);
-    assert_eq!(rt; written.as_slice(), text.as_slice());
-    Ok(())
-}
-
-#[test]
 fn prints_no_empty_history(rt: HostRuntime) -> Result<(), Fail> {
     let (status, text) = replayed(rt.alloc(), b"cp 1\nmembers 0\nsize 1\nclients 1\nend\n")?;
     assert_eq!(rt; status, Status::Done);
@@ -83,27 +62,25 @@ fn prints_no_empty_history(rt: HostRuntime) -> Result<(), Fail> {
     Ok(())
 }
 
+/// The status of `replay` on these bytes, and how many bytes it wrote.
+fn ended(alloc: Global, source: &[u8]) -> Result<(Status, usize), Fail> {
+    let (status, text) = replayed(alloc, source)?;
+    Ok((status, text.len()))
+}
+
 #[test]
-fn refuses_bad_and_unbuilt_lines(rt: HostRuntime) -> Result<(), Fail> {
-    let alloc = rt.alloc();
-    let table: [(&[u8], Status); 5] = [
-        (b"", Status::BadSchedule(1)),
-        (&ADD[..ADD.len() - 4], Status::BadSchedule(8)),
-        (b"cp 1\nmembers 3\n", Status::NotBuilt(2)),
-        (
-            b"cp 1\nmembers 0\nsize 1\nclients 1\nend\nx",
-            Status::BadSchedule(6),
-        ),
-        (
-            b"cp 1\nmembers 0\nsize 1\nclients 1\nend\n\n",
-            Status::NotBuilt(6),
-        ),
-    ];
-    for (source, wanted) in table.iter() {
-        let (status, text) = replayed(alloc, source)?;
-        assert_eq!(rt; status, *wanted);
-        assert!(rt; text.is_empty());
-    }
+fn refuses_a_missing_end(rt: HostRuntime) -> Result<(), Fail> {
+    assert_eq!(rt;
+        ended(rt.alloc(), &ADD[..ADD.len() - 4])?,
+        (Status::BadSchedule(8), 0)
+    );
+    Ok(())
+}
+
+#[test]
+fn builds_no_members_yet(rt: HostRuntime) -> Result<(), Fail> {
+    let source = b"cp 1\nmembers 3\nsize 3\nclients 1\nend\n";
+    assert_eq!(rt; ended(rt.alloc(), source)?, (Status::NotBuilt(2), 0));
     Ok(())
 }
 
@@ -166,27 +143,21 @@ fn tells_a_fault_of_the_first_or_the_second_write(rt: HostRuntime) -> Result<(),
 }
 
 #[test]
-fn refuses_more_than_16_mebibytes(rt: HostRuntime) -> Result<(), Fail> {
-    let alloc = rt.alloc();
-    let mut bytes = Vec::with_capacity(alloc, 16_777_217)?;
-    for _ in 0..16_777_217u32 {
-        bytes.push(b' ')?;
-    }
-    let (status, text) = replayed(alloc, &bytes)?;
-    assert_eq!(rt; status, Status::TooLong);
-    assert!(rt; text.is_empty());
-    bytes.truncate(16_777_216);
-    let (status, _) = replayed(alloc, &bytes)?;
-    assert_eq!(rt; status, Status::BadSchedule(1));
-    Ok(())
-}
-
-#[test]
 fn tells_each_status(rt: HostRuntime) -> Result<(), Fail> {
     let table = [
         (Status::Done, 0, ""),
         (Status::Usage, 2, "cp: usage"),
         (Status::BadSchedule(8), 3, "cp: line 8: bad"),
+        (
+            Status::Limit(9, LimitName::Events),
+            4,
+            "cp: line 9: limit events",
+        ),
+        (
+            Status::Limit(10, LimitName::Transcript),
+            4,
+            "cp: line 10: limit transcript",
+        ),
         (Status::ReadFault, 5, "cp: read fault"),
         (Status::WriteFault, 6, "cp: write fault"),
         (Status::NoMemory, 7, "cp: no memory"),

@@ -5,4 +5,5 @@ pub returns-in-Ok-write_all-clause-done : goal.returns-in-Ok-write_all-clause-do
 returns-in-Ok-write_all-clause-done g c = λ done words.
     replays (g.S.Source.left c.args.source.now) (g.S.Source.left c.read_all.new.source) c.in-Ok.bytes.items c.in-Ok-read.schedule
     (g.K.Sink.written c.args.sink.now) (g.K.Sink.written c.write_all.new.sink) c.in-Ok-transcript.text.items
-    c.in-Ok.ensures.ok (rw c.deref.ensures.value at c.in-Ok-read.ensures.ok) (rw c.deref.ensures.value at c.in-Ok-read.ensures.few) c.in-Ok-transcript.ensures (rw c.deref-2.ensures.value at c.in-Ok-write_all.ensures.ok)
+    c.in-Ok.ensures.ok (rw c.deref.ensures.value at c.in-Ok-read.ensures.found) c.in-Ok-transcript.ensures
+    (rw c.deref-2.ensures.value at c.in-Ok-write_all.ensures.ok)

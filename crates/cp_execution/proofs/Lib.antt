@@ -1,4 +1,0 @@
-pub mod Lists
-pub mod Histories
-pub mod Steps
-pub mod Runs

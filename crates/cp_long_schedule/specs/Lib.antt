@@ -1,4 +1,0 @@
-pub mod Schedules
-pub mod Reading
-pub mod Faults
-pub mod Laws

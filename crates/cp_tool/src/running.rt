@@ -1,0 +1,189 @@
+//! Runs a schedule event by event, and makes its transcript.
+ghost use Rattle.std.specs.Prelude.{◌≡◌, ◌≤◌, ◌<◌, ◌+◌, ◌^◌, ◌++◌, ◌∷◌, List, [], length, IfErr, IfOk, MatchResult, OnOk};
+ghost use Rattle.cp_events.specs.declared.effects.Effects.{Effects};
+ghost use Rattle.cp_events.specs.declared.event.Event.{Event};
+ghost use Rattle.cp_events.specs.declared.plan.Plan.{Plan};
+ghost use Rattle.cp_run.specs.Execution.{events_of};
+ghost use Rattle.cp_run.specs.Rows.{Committed};
+ghost use Rattle.cp_transcript.specs.Telling.{Tells, committed_at};
+ghost use Rattle.cp_tool.specs.Limits.{KeepsLimits, beyond, text_of};
+ghost use Rattle.cp_tool.specs.Running.{Follows, GoesOn, Halts, IsRunning, IsWhole, Runs, StopCause};
+
+use crate::status::LimitName;
+use cp_base::{Items, NoMemory};
+use cp_events::{Effects, Event, Line, Plan, Schedule};
+use cp_ops::Entry;
+use cp_schedule::line_of_event;
+use cp_transcript::Transcript;
+use cp_world::World;
+use std::alloc::Global;
+
+/// The most events of a run.
+const MOST_EVENTS: u64 = 100_000;
+
+/// The most bytes of a transcript: 256 MiB.
+const MOST_TEXT: u128 = 268_435_456;
+
+/// A run so far.
+#[derive(Drop)]
+pub struct Running {
+    pub world: World,
+    pub transcript: Transcript,
+    /// How many events there were.
+    pub events: u64,
+}
+
+/// Why an event ends a run.
+#[derive(Clone, Copy, Debug, PartialEq, Eq)]
+pub enum Halt {
+    /// A quantity passed its limit.
+    Limit(LimitName),
+    NoMemory,
+}
+
+/// Why a schedule was not run to its end.
+#[derive(Clone, Copy, Debug, PartialEq, Eq)]
+pub enum Stop {
+    /// At the event of this line a quantity passed its limit.
+    Limit(u64, LimitName),
+    NoMemory,
+}
+
+/// Before the first event.
+fn open(alloc: Global) -> Result<Running, NoMemory>
+    ensures { IfOk result (λ running. (plan : Plan) → Runs plan [] running) }
+{
+    Ok(Running {
+        world: World::new(alloc)?,
+        transcript: Transcript::new(alloc)?,
+        events: 0,
+    })
+}
+
+/// What an event shows, and the entries that it committed.
+fn print(transcript: &mut Transcript, effects: &Effects, entries: &[Entry]) -> Result<(), NoMemory>
+    requires { transcript.old.rows + length entries.now < 2 ^ 62 }
+    ensures { OnOk result ((shown : List Effects) (history : List Committed) → Tells shown history transcript.old
+        → Tells (shown ++ effects.now ∷ []) (history ++ committed_at effects.now.number entries.now) transcript.new) }
+{
+    transcript.add_effects(effects)?;
+    transcript.add_all_committed(effects.number, entries)?;
+    Ok(())
+}
+
+/// The same of values that are not wanted any more.
+fn print_last(
+    transcript: &mut Transcript,
+    effects: Effects,
+    entries: Items<Entry>,
+) -> Result<(), NoMemory>
+    requires { transcript.old.rows + length entries < 2 ^ 62 }
+    ensures { OnOk result ((shown : List Effects) (history : List Committed) → Tells shown history transcript.old
+        → Tells (shown ++ effects ∷ []) (history ++ committed_at effects.number entries) transcript.new) }
+{
+    print(transcript, &effects, entries.as_slice())?;
+    Ok(())
+}
+
+/// An event happens, and is printed.
+fn show(running: &mut Running, plan: &Plan, event: Event) -> Result<(), NoMemory>
+    requires { IsRunning plan.now running.old }
+    ensures { OnOk result ((events : List Event) → Follows plan.now events running.old → Follows plan.now (events ++ event ∷ []) running.new) }
+{
+    let (effects, entries) = running.world.step(plan, event)?;
+    print_last(&mut running.transcript, effects, entries)?;
+    running.events += 1;
+    Ok(())
+}
+
+/// The first quantity that is beyond its limit, if any is.
+fn beyond(events: u64, bytes: u128) -> Option<LimitName>
+    ensures { result ≡ beyond events bytes }
+{
+    if events > MOST_EVENTS {
+        return Some(LimitName::Events);
+    }
+    if bytes > MOST_TEXT {
+        return Some(LimitName::Transcript);
+    }
+    None
+}
+
+/// An event, unless a quantity passes its limit there.
+fn step(running: &mut Running, plan: &Plan, event: Event) -> Result<(), Halt>
+    requires { IsRunning plan.now running.old }
+    ensures ok { OnOk result (GoesOn plan.now (event ∷ []) running.old running.new) }
+    ensures err { IfErr result (λ why. Halts why plan.now (event ∷ []) running.old) }
+{
+    match show(running, plan, event) {
+        Ok(()) => {}
+        Err(NoMemory) => return Err(Halt::NoMemory),
+    }
+    match beyond(running.events, running.transcript.len()) {
+        None => Ok(()),
+        Some(name) => Err(Halt::Limit(name)),
+    }
+}
+
+/// A line behind the header. Nothing is ever sent, so nothing is settled.
+fn run_line(running: &mut Running, plan: &Plan, line: Line) -> Result<(), Halt>
+    requires { IsRunning plan.now running.old }
+    ensures ok { OnOk result (GoesOn plan.now (events_of (line ∷ [])) running.old running.new) }
+    ensures err { IfErr result (λ why. Halts why plan.now (events_of (line ∷ [])) running.old) }
+{
+    match line {
+        Line::Settle(_) => Ok(()),
+        Line::One(event) => step(running, plan, event),
+    }
+}
+
+fn run_lines(running: &mut Running, plan: &Plan, lines: Items<Line>) -> Result<(), Stop>
+    requires begun { Runs plan.now [] running.old }
+    requires few { length lines < 2 ^ 62 }
+    requires limits { length plan.now.limits ≤ 16 }
+    ensures ok { OnOk result (Runs plan.now (events_of lines) running.new) }
+    ensures kept { OnOk result (KeepsLimits plan.now lines (length lines)) }
+    ensures err { IfErr result (StopCause plan.now lines) }
+{
+    let mut place: u64 = 0;
+    for line in lines.into_vec() {
+        match run_line(running, plan, line) {
+            Ok(()) => place += 1,
+            Err(Halt::Limit(name)) => return Err(Stop::Limit(line_of_event(plan, place), name)),
+            Err(Halt::NoMemory) => return Err(Stop::NoMemory),
+        }
+    }
+    Ok(())
+}
+
+/// The transcript of a schedule, or why it has none.
+pub fn transcript(alloc: Global, schedule: Schedule) -> Result<Vec<u8>, Stop>
+    requires few { length schedule.lines < 2 ^ 62 }
+    requires limits { length schedule.plan.limits ≤ 16 }
+    ensures { MatchResult result (λ text. IsWhole schedule.plan schedule.lines text.items) (StopCause schedule.plan schedule.lines) }
+{
+    let Schedule { plan, lines } = schedule;
+    let Ok(mut running) = open(alloc) else {
+        return Err(Stop::NoMemory);
+    };
+    match run_lines(&mut running, &plan, lines) {
+        Ok(()) => {}
+        Err(stop) => return Err(stop),
+    }
+    match close(running) {
+        Ok(text) => Ok(text),
+        Err(NoMemory) => Err(Stop::NoMemory),
+    }
+}
+
+fn close(running: Running) -> Result<Vec<u8>, NoMemory>
+    ensures { IfOk result (λ text. (plan : Plan) (events : List Event) → Runs plan events running → text.items ≡ text_of plan events) }
+{
+    let Running {
+        world: _,
+        transcript,
+        events: _,
+    } = running;
+    let text = transcript.into_text()?;
+    Ok(text)
+}
