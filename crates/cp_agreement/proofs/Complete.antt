@@ -1,5 +1,6 @@
 -- Leader completeness in one state that meets the invariant: a chosen entry stands in each log that can win a later election.
-use Rattle.cp_rules.specs.Entries.{Entry, members_in}
+use Rattle.cp_parts.specs.declared.log_entry.LogEntry.{LogEntry}
+use Rattle.cp_rules.specs.Entries.{members_in}
 use Rattle.cp_rules.specs.Configurations.{AreAdjacent, AreOneApart, configuration_after}
 use Rattle.cp_rules.specs.Logs.{HasTerm, IsUpToDate}
 use Rattle.cp_agreement.specs.WholeLogs.{Cluster}
@@ -12,13 +13,13 @@ use Rattle.cp_agreement.proofs.Quorums.{quorum_members_meet}
 use Rattle.cp_agreement.proofs.Ghost.{Ghost, Backs, Clash, EndsPast, Chosen, Sound, Invariant, Prepared, Election}
 
 -- Two sound logs match.
-pub sound_matches : (g : Ghost) (l m : List Entry) (u v : ℕ) → Sound g l u → Sound g m v → Matches l m
+pub sound_matches : (g : Ghost) (l m : List LogEntry) (u v : ℕ) → Sound g l u → Sound g m v → Matches l m
 sound_matches g l m u v sl sm k e f is js same = share_trans l (g.made e.term) m (suc k) (sl.rooted k e is) (share_sym m (g.made e.term) (suc k) (subst (λ (x : ℕ). Share (suc k) m (g.made x)) (sym same) (sm.rooted k f js)))
 
 -- A front of a sound log is sound.
-pub sound_front : (g : Ghost) (l m : List Entry) (u : ℕ) → Share (length l) l m → Sound g m u → Sound g l u
+pub sound_front : (g : Ghost) (l m : List LogEntry) (u : ℕ) → Share (length l) l m → Sound g m u → Sound g l u
 sound_front g l m u front sound =
-    let there : (k : ℕ) (e : Entry) → slice_get l k ≡ Some e → slice_get m k ≡ Some e = λ k e is. share_at l m (length l) k e front (slice_get_within l k e is) is in
+    let there : (k : ℕ) (e : LogEntry) → slice_get l k ≡ Some e → slice_get m k ≡ Some e = λ k e is. share_at l m (length l) k e front (slice_get_within l k e is) is in
     record {
       upto = λ k e is. sound.upto k e (there k e is);
       rooted = λ k e is. share_trans l m (g.made e.term) (suc k) (share_less l m (suc k) (length l) (slice_get_within l k e is) front) (sound.rooted k e (there k e is));
@@ -32,14 +33,14 @@ flip a b (inr (inr h)) = inr (inl h)
 
 module _ (first : List ℕ) (w : Cluster) (g : Ghost) (inv : Invariant first w g) where
   -- a log's last members entry, and the entry that was chosen before that one was created
-  pub record Prep (x : List Entry) : Type 0 where
+  pub record Prep (x : List LogEntry) : Type 0 where
     pub last : LastChange first x
     pub made : Share (suc last.place) x (g.made last.entry.term)
     pub prep : Prepared first w g last.entry.term last.place last.members
     pub less : prep.place < last.place
 
   -- A sound log has no members entry, or its last one was prepared.
-  pub prepare : (x : List Entry) (u : ℕ) → Sound g x u → QuietFrom x 0 ⊎ Prep x
+  pub prepare : (x : List LogEntry) (u : ℕ) → Sound g x u → QuietFrom x 0 ⊎ Prep x
   prepare x u sound = ⊎_elim inl
       (λ (l : LastChange first x).
       let root = sound.rooted l.place l.entry l.there in
@@ -48,16 +49,16 @@ module _ (first : List ℕ) (w : Cluster) (g : Ghost) (inv : Invariant first w g
       (last_change first x)
 
   -- the log y has the entry that was chosen before the last members entry of x was created
-  record CoversChange (x y : List Entry) : Type 0 where
+  record CoversChange (x y : List LogEntry) : Type 0 where
     prep : Prep x
     both : Share (suc prep.prep.place) x y
 
   -- that entry stands in x itself
-  chosen_there : (x : List Entry) (p : Prep x) → slice_get x p.prep.place ≡ Some p.prep.chosen.entry
+  chosen_there : (x : List LogEntry) (p : Prep x) → slice_get x p.prep.place ≡ Some p.prep.chosen.entry
   chosen_there x p = share_at (g.made p.last.entry.term) x (suc p.last.place) p.prep.place p.prep.chosen.entry (share_sym x (g.made p.last.entry.term) (suc p.last.place) p.made) (omega (arith, p.less)) p.prep.chosen.there
 
   -- Where y has no members entry after it, the configurations of y and x are one apart.
-  absorbed : (x y : List Entry) (s : CoversChange x y) → QuietFrom y (suc s.prep.prep.place) → AreAdjacent (configuration_after first y) (configuration_after first x)
+  absorbed : (x y : List LogEntry) (s : CoversChange x y) → QuietFrom y (suc s.prep.prep.place) → AreAdjacent (configuration_after first y) (configuration_after first x)
   absorbed x y s ends =
       let p = s.prep in let c = p.prep.chosen in
       let agree : Share (suc p.prep.place) y c.till = share_trans y x c.till (suc p.prep.place) (share_sym x y (suc p.prep.place) s.both)
@@ -69,7 +70,7 @@ module _ (first : List ℕ) (w : Cluster) (g : Ghost) (inv : Invariant first w g
       inr (subst₂ AreOneApart (sym same) (sym p.last.members_are) p.prep.one_apart)
 
   -- Where the last members entries of both lie past what was chosen before the other's, they are one entry.
-  apart : (x y : List Entry) (sx : CoversChange x y) (sy : CoversChange y x) → sy.prep.prep.place < sx.prep.last.place → sx.prep.prep.place < sy.prep.last.place → configuration_after first x ≡ configuration_after first y
+  apart : (x y : List LogEntry) (sx : CoversChange x y) (sy : CoversChange y x) → sy.prep.prep.place < sx.prep.last.place → sx.prep.prep.place < sy.prep.last.place → configuration_after first x ≡ configuration_after first y
   apart x y sx sy jx iy =
       let px = sx.prep in let py = sy.prep in
       let lx = px.last in let ly = py.last in
@@ -83,14 +84,14 @@ module _ (first : List ℕ) (w : Cluster) (g : Ghost) (inv : Invariant first w g
       ⊎_elim
       (λ (e : lx.place ≡ ly.place).
       let one : lx.entry ≡ ly.entry = same_Some lx.entry ly.entry (sym mx ∙ ap (λ u. slice_get (g.made u) lx.place) same ∙ ap (slice_get (g.made ly.entry.term)) e ∙ my) in
-      lx.members_are ∙ same_Some lx.members ly.members (sym lx.is ∙ ap (λ z. members_in z.body) one ∙ ly.is) ∙ sym ly.members_are)
+      lx.members_are ∙ same_Some lx.members ly.members (sym lx.is ∙ ap (λ z. members_in z.bytes) one ∙ ly.is) ∙ sym ly.members_are)
       (⊎_elim
       (λ (h : lx.place < ly.place). absurd (let n = py.prep.quiet lx.place lx.entry jx h (ap (λ u. slice_get (g.made u) lx.place) (sym same) ∙ mx) in let s = lx.is in cc))
       (λ (h : ly.place < lx.place). absurd (let n = px.prep.quiet ly.place ly.entry iy h (ap (λ u. slice_get (g.made u) ly.place) same ∙ my) in let s = ly.is in cc)))
       (cases_order lx.place ly.place)
 
   -- Two logs, each with what was chosen before the other's last members entry, have adjacent configurations.
-  adjacent : (x y : List Entry) → QuietFrom x 0 ⊎ CoversChange x y → QuietFrom y 0 ⊎ CoversChange y x → AreAdjacent (configuration_after first x) (configuration_after first y)
+  adjacent : (x y : List LogEntry) → QuietFrom x 0 ⊎ CoversChange x y → QuietFrom y 0 ⊎ CoversChange y x → AreAdjacent (configuration_after first x) (configuration_after first y)
   adjacent x y (inl ex) (inl ey) = inl (no_change first x ex ∙ sym (no_change first y ey))
   adjacent x y (inl ex) (inr sy) = absorbed y x sy (λ k e le is. ex k e (omega arith) is)
   adjacent x y (inr sx) (inl ey) = flip (configuration_after first y) (configuration_after first x) (absorbed x y sx (λ k e le is. ey k e (omega arith) is))
@@ -121,13 +122,13 @@ module _ (first : List ℕ) (w : Cluster) (g : Ghost) (inv : Invariant first w g
   from_won t k t' both = share_trans (g.made t) (g.won t') (g.made t') (suc k) both (share_less (g.won t') (g.made t') (suc k) (length (g.won t')) (share_length (g.made t) (g.won t') (suc k) both) (inv.won t'))
 
   -- An entry of the leader's own term stands behind the log with which it won.
-  own_past : (t k : ℕ) (e : Entry) → slice_get (g.made t) k ≡ Some e → e.term ≡ t → length (g.won t) ≤ k
+  own_past : (t k : ℕ) (e : LogEntry) → slice_get (g.made t) k ≡ Some e → e.term ≡ t → length (g.won t) ≤ k
   own_past t k e is own = ⊎_elim
       (λ (low : k < length (g.won t)). absurd (omega (arith, inv.won_below t k e (share_at (g.made t) (g.won t) (length (g.won t)) k e (share_sym (g.won t) (g.made t) (length (g.won t)) (inv.won t)) low is), own)))
       (λ le. le)
       (cases_lt k (length (g.won t)))
 
-  module _ (t' bound : ℕ) (fits : t' ≤ bound) (x : List Entry) (el : Election first w g t' bound x)
+  module _ (t' bound : ℕ) (fits : t' ≤ bound) (x : List LogEntry) (el : Election first w g t' bound x)
       (before : (u : ℕ) → u < bound → g.leader u ≢ 0 → (t k : ℕ) → Chosen first w g t k → t < u → Share (suc k) (g.made t) (g.won u)) where
     -- Every leader between has the chosen entry.
     between : (t k : ℕ) → Chosen first w g t k → (u : ℕ) → g.leader u ≢ 0 → t ≤ u → u < bound → Share (suc k) (g.made t) (g.made u)
@@ -229,7 +230,7 @@ module _ (first : List ℕ) (w : Cluster) (g : Ghost) (inv : Invariant first w g
         (prepare x t' el.sound)
 
   -- Each log that can win an election has each entry that was chosen in a lower term: by induction on the term.
-  elects_below : (n : ℕ) → (t' : ℕ) → t' < n → (x : List Entry) → Election first w g t' t' x → (t k : ℕ) → (c : Chosen first w g t k) → t < t' → Share (suc k) (g.made t) x
+  elects_below : (n : ℕ) → (t' : ℕ) → t' < n → (x : List LogEntry) → Election first w g t' t' x → (t k : ℕ) → (c : Chosen first w g t k) → t < t' → Share (suc k) (g.made t) x
   elects_below zero t' below = absurd (omega arith)
   elects_below (suc n) t' below = λ x el t k c less. elected_has t' t' (le_refl t') x el
       (λ u lower leader. elects_below n u (omega arith) (g.won u) (leader_election u leader))
@@ -247,11 +248,11 @@ module _ (first : List ℕ) (w : Cluster) (g : Ghost) (inv : Invariant first w g
       (cases_eq t t')
 
   -- A candidate of a term that already has a leader has each entry that was chosen in a lower term.
-  rival_has : (t' : ℕ) (x : List Entry) → Election first w g t' (suc t') x → (t k : ℕ) → Chosen first w g t k → t < t' → Share (suc k) (g.made t) x
+  rival_has : (t' : ℕ) (x : List LogEntry) → Election first w g t' (suc t') x → (t k : ℕ) → Chosen first w g t k → t < t' → Share (suc k) (g.made t) x
   rival_has t' x el t k c less = elected_has t' (suc t') (omega arith) x el (λ u lower leader t k c less. complete_won t k c u leader less) (suc (length c.till)) t k c (omega arith) less
 
   -- Two candidates of one term have adjacent configurations, so there is one leader per term.
-  pub rivals_adjacent : (t' : ℕ) → g.leader t' ≢ 0 → (x : List Entry) → Election first w g t' (suc t') x → AreAdjacent (configuration_after first x) (configuration_after first (g.won t'))
+  pub rivals_adjacent : (t' : ℕ) → g.leader t' ≢ 0 → (x : List LogEntry) → Election first w g t' (suc t') x → AreAdjacent (configuration_after first x) (configuration_after first (g.won t'))
   rivals_adjacent t' holds x el = adjacent x (g.won t')
       (⊎_elim inl (λ (p : Prep x). inr (record {
         prep = p;

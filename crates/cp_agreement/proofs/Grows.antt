@@ -1,5 +1,6 @@
 -- One step keeps the invariant: nothing that an execution has shown is taken back.
-use Rattle.cp_rules.specs.Entries.{Entry, members_in}
+use Rattle.cp_parts.specs.declared.log_entry.LogEntry.{LogEntry}
+use Rattle.cp_rules.specs.Entries.{members_in}
 use Rattle.cp_rules.specs.Configurations.{AreOneApart, HasQuorum, configuration_after}
 use Rattle.cp_rules.specs.Logs.{EndsAt, HasEntries, HasTerm, IsUpToDate}
 use Rattle.cp_rules.specs.Clusters.{Append, Appended, Vote, Voted, put}
@@ -16,7 +17,7 @@ use Rattle.cp_agreement.proofs.Complete.{complete, rivals_adjacent, sound_matche
 use Rattle.cp_agreement.proofs.GhostSteps.{made_ne, made_in, made_out, leader_ne, leader_in, leader_out, won_ne, won_took, won_out, won_held}
 
 -- A log that has an entry ends with an entry of no lower term.
-ends_past : (g : Ghost) (log : List Entry) (u : ℕ) → Sound g log u → ((t : ℕ) → Sound g (g.made t) t) → (k : ℕ) (e : Entry) → slice_get log k ≡ Some e → (lt li : ℕ) → li ≡ length log → HasTerm log li lt → IsUpToDate lt li e.term (suc k)
+ends_past : (g : Ghost) (log : List LogEntry) (u : ℕ) → Sound g log u → ((t : ℕ) → Sound g (g.made t) t) → (k : ℕ) (e : LogEntry) → slice_get log k ≡ Some e → (lt li : ℕ) → li ≡ length log → HasTerm log li lt → IsUpToDate lt li e.term (suc k)
 ends_past g log u sound made k e is lt zero end has = absurd (omega (arith, slice_get_within log k e is))
 ends_past g log u sound made k e is lt (suc i) end has =
     let le : k ≤ i = omega (arith, slice_get_within log k e is) in
@@ -117,7 +118,7 @@ module _ (first : List ℕ) (w : Cluster) (g : Ghost) (s : Step) (inv : Invarian
       (one_leader leading)
 
   -- A leader's log keeps what it has.
-  pub made_grows : (t k : ℕ) (e : Entry) → slice_get (g.made t) k ≡ Some e → slice_get (now.made t) k ≡ Some e
+  pub made_grows : (t k : ℕ) (e : LogEntry) → slice_get (g.made t) k ≡ Some e → slice_get (now.made t) k ≡ Some e
   made_grows t k e is = ⊎_elim
       (λ (same : t ≡ s.after.term). ⊎_elim
       (λ (leading : s.leads ≡ true).
@@ -181,7 +182,7 @@ module _ (first : List ℕ) (w : Cluster) (g : Ghost) (s : Step) (inv : Invarian
       (cases_eq m s.actor)
 
   -- What was shared with a leader's log stays.
-  pub share_grows : (n t : ℕ) (l : List Entry) → Share n l (g.made t) → Share n l (now.made t)
+  pub share_grows : (n t : ℕ) (l : List LogEntry) → Share n l (g.made t) → Share n l (now.made t)
   share_grows n t l both k less = let x = both k less in (x.0, x.1, made_grows t k x.0 x.2)
 
   -- A clash stays.
@@ -191,7 +192,7 @@ module _ (first : List ℕ) (w : Cluster) (g : Ghost) (s : Step) (inv : Invarian
       record { by = c.by; from = c.from; below = omega (arith, c.below); differ = (j, l, e, f, made_grows c.by j e he, made_grows t j f hf, d) }
 
   -- A sound log stays sound.
-  pub sound_grows : (l : List Entry) (u u' : ℕ) → u ≤ u' → Sound g l u → Sound now l u'
+  pub sound_grows : (l : List LogEntry) (u u' : ℕ) → u ≤ u' → Sound g l u → Sound now l u'
   sound_grows l u u' le sound = record {
     upto = λ k e is. let h : e.term ≤ u = sound.upto k e is in omega arith;
     rooted = λ k e is. share_grows (suc k) e.term l (sound.rooted k e is);
@@ -207,7 +208,7 @@ module _ (first : List ℕ) (w : Cluster) (g : Ghost) (s : Step) (inv : Invarian
       creates : EntriesCreated first w s → Sound now s.after.log s.after.term
       creates m =
           let old : Sound now me.log s.after.term = sound_grows me.log me.term s.after.term facts.term (inv.log s.actor) in
-          let split : (k : ℕ) (e : Entry) → slice_get s.after.log k ≡ Some e → (slice_get me.log k ≡ Some e) ⊎ ((k ≡ length me.log) × (e ≡ m.entry)) = λ k e is. push_cases me.log m.entry e k (ap (λ l. slice_get l k) (sym m.result) ∙ is) in
+          let split : (k : ℕ) (e : LogEntry) → slice_get s.after.log k ≡ Some e → (slice_get me.log k ≡ Some e) ⊎ ((k ≡ length me.log) × (e ≡ m.entry)) = λ k e is. push_cases me.log m.entry e k (ap (λ l. slice_get l k) (sym m.result) ∙ is) in
           record {
             upto = λ k e is. ⊎_elim (old.upto k e) (λ h. le_of_eq (ap (λ x. x.term) h.1 ∙ m.own)) (split k e is);
             rooted = λ k e is. ⊎_elim
@@ -282,7 +283,7 @@ module _ (first : List ℕ) (w : Cluster) (g : Ghost) (s : Step) (inv : Invarian
       (λ h. rw h.0 (le_trans (inv.reached t (λ z. held (h.0 ∙ z))) (term_grows (g.leader t))))
       (cases_led t)
 
-  next_held : (t k : ℕ) (e : Entry) → slice_get (now.made t) k ≡ Some e → now.leader t ≢ 0
+  next_held : (t k : ℕ) (e : LogEntry) → slice_get (now.made t) k ≡ Some e → now.leader t ≢ 0
   next_held t k e is = ⊎_elim
       (λ h. λ z. facts.named (sym (leader_in w g s t h.0 h.1) ∙ z))
       (λ h. held_stays t (inv.held t k e (ap (λ l. slice_get l k) (sym h.1) ∙ is)))
@@ -318,7 +319,7 @@ module _ (first : List ℕ) (w : Cluster) (g : Ghost) (s : Step) (inv : Invarian
       (λ wins. wins)
       (facts.elected leading)
 
-  next_won_below : (t k : ℕ) (e : Entry) → slice_get (now.won t) k ≡ Some e → e.term < t
+  next_won_below : (t k : ℕ) (e : LogEntry) → slice_get (now.won t) k ≡ Some e → e.term < t
   next_won_below t k e is = ⊎_elim
       (λ h. subst (λ u. e.term < u) (sym h.2) ((wins_now h.0 (ap g.leader (sym h.2) ∙ h.1)).fresh k e (ap (λ l. slice_get l k) (sym (won_took w g s t h.0 h.1 h.2)) ∙ is)))
       (λ (h : now.won t ≡ g.won t). inv.won_below t k e (ap (λ l. slice_get l k) (sym h) ∙ is))
@@ -351,10 +352,10 @@ module _ (first : List ℕ) (w : Cluster) (g : Ghost) (s : Step) (inv : Invarian
       (Contains-append_cases w.sent s.sends (Vote c t lt li) sent)
 
   -- The Append that came is a piece of its leader's log.
-  came_piece : (c : GotAppend w s) → (g.leader s.after.term ≢ 0) × HasTerm (g.made s.after.term) c.previous c.previous_term × ((k : ℕ) (e : Entry) → slice_get c.entries k ≡ Some e → slice_get (g.made s.after.term) (c.previous + k) ≡ Some e)
+  came_piece : (c : GotAppend w s) → (g.leader s.after.term ≢ 0) × HasTerm (g.made s.after.term) c.previous c.previous_term × ((k : ℕ) (e : LogEntry) → slice_get c.entries k ≡ Some e → slice_get (g.made s.after.term) (c.previous + k) ≡ Some e)
   came_piece c = inv.append c.sender s.after.term c.previous c.previous_term c.entries c.commit (facts.delivered (Append c.sender s.after.term c.previous c.previous_term c.entries c.commit) c.got)
 
-  next_append : (f t p pt : ℕ) (es : List Entry) (c : ℕ) → Contains next_w.sent (Append f t p pt es c) → (now.leader t ≢ 0) × HasTerm (now.made t) p pt × ((k : ℕ) (e : Entry) → slice_get es k ≡ Some e → slice_get (now.made t) (p + k) ≡ Some e)
+  next_append : (f t p pt : ℕ) (es : List LogEntry) (c : ℕ) → Contains next_w.sent (Append f t p pt es c) → (now.leader t ≢ 0) × HasTerm (now.made t) p pt × ((k : ℕ) (e : LogEntry) → slice_get es k ≡ Some e → slice_get (now.made t) (p + k) ≡ Some e)
   next_append f t p pt es c sent = ⊎_elim
       (λ old. let h = inv.append f t p pt es c old in
       (held_stays t h.0, has_term_grows (g.made t) (now.made t) (made_grows t) p pt h.1, λ k e is. made_grows t (p + k) e (h.2 k e is)))
@@ -585,7 +586,7 @@ module _ (first : List ℕ) (w : Cluster) (g : Ghost) (s : Step) (inv : Invarian
   }
 
   -- What is committed stays committed.
-  pub committed_grows : (l l' : List Entry) (n u u' : ℕ) → u ≤ u' → ((c : Committed first w g l n u) → Share n l' (g.made c.term)) → Committed first w g l n u → Committed first next_w now l' n u'
+  pub committed_grows : (l l' : List LogEntry) (n u u' : ℕ) → u ≤ u' → ((c : Committed first w g l n u) → Share n l' (g.made c.term)) → Committed first w g l n u → Committed first next_w now l' n u'
   committed_grows l l' n u u' le same c = record {
     term = c.term;
     place = c.place;
@@ -596,7 +597,7 @@ module _ (first : List ℕ) (w : Cluster) (g : Ghost) (s : Step) (inv : Invarian
   }
 
   -- Fewer entries of a committed list are committed.
-  commits_less : (log : List Entry) (n m u : ℕ) → m ≤ n → (n ≡ 0) ⊎ Committed first w g log n u → (m ≡ 0) ⊎ Committed first w g log m u
+  commits_less : (log : List LogEntry) (n m u : ℕ) → m ≤ n → (n ≡ 0) ⊎ Committed first w g log n u → (m ≡ 0) ⊎ Committed first w g log m u
   commits_less log n m u le (inl e) = inl (omega arith)
   commits_less log n m u le (inr c) = inr (record { term = c.term; place = c.place; upto = c.upto; covers = le_trans le c.covers; chosen = c.chosen; same = share_less log (g.made c.term) m n le c.same })
 
@@ -676,7 +677,7 @@ module _ (first : List ℕ) (w : Cluster) (g : Ghost) (s : Step) (inv : Invarian
       commit_actor
       (λ m ne. ⊎_elim inl (λ c. inr (committed_grows (w.member m).log (w.member m).log (w.member m).commit (w.member m).term (w.member m).term (le_refl (w.member m).term) (λ c. c.same) c)) (inv.commit m))
 
-  next_told : (f t p pt : ℕ) (es : List Entry) (c : ℕ) → Contains next_w.sent (Append f t p pt es c) → (c ≡ 0) ⊎ Committed first next_w now (now.made t) c t
+  next_told : (f t p pt : ℕ) (es : List LogEntry) (c : ℕ) → Contains next_w.sent (Append f t p pt es c) → (c ≡ 0) ⊎ Committed first next_w now (now.made t) c t
   next_told f t p pt es c sent = ⊎_elim
       (λ old. ⊎_elim inl
       (λ (k : Committed first w g (g.made t) c t). inr (record {
@@ -697,19 +698,19 @@ module _ (first : List ℕ) (w : Cluster) (g : Ghost) (s : Step) (inv : Invarian
       (Contains-append_cases w.sent s.sends (Append f t p pt es c) sent)
 
   -- A prepared members entry stays prepared.
-  prepared_grows : (r x : ℕ) (e : Entry) (after : List ℕ) → slice_get (g.made r) x ≡ Some e → Prepared first w g r x after → Prepared first next_w now r x after
+  prepared_grows : (r x : ℕ) (e : LogEntry) (after : List ℕ) → slice_get (g.made r) x ≡ Some e → Prepared first w g r x after → Prepared first next_w now r x after
   prepared_grows r x e after is p = record {
     place = p.place;
     chosen = chosen_grows r p.place p.chosen;
     before = p.before;
     quiet = λ k f low high at.
         let z = has_place (g.made r) k (omega (arith, high, slice_get_within (g.made r) x e is)) in
-        ap (λ y. members_in y.body) (same_Some f z.0 (sym at ∙ made_grows r k z.0 z.1)) ∙ p.quiet k z.0 low high z.1;
+        ap (λ y. members_in y.bytes) (same_Some f z.0 (sym at ∙ made_grows r k z.0 z.1)) ∙ p.quiet k z.0 low high z.1;
     one_apart = p.one_apart;
   }
 
   -- A members entry that this step creates is prepared.
-  prepared_now : (m : EntriesCreated first w s) (after : List ℕ) → members_in m.entry.body ≡ Some after → Prepared first next_w now s.after.term (length me.log) after
+  prepared_now : (m : EntriesCreated first w s) (after : List ℕ) → members_in m.entry.bytes ≡ Some after → Prepared first next_w now s.after.term (length me.log) after
   prepared_now m after is =
       let c = m.change after is in
       let (k, e, less, there, own) = c.own in
@@ -737,7 +738,7 @@ module _ (first : List ℕ) (w : Cluster) (g : Ghost) (s : Step) (inv : Invarian
       }))
       (inv.commit s.actor)
 
-  next_prepared : (r x : ℕ) (e : Entry) (after : List ℕ) → slice_get (now.made r) x ≡ Some e → e.term ≡ r → (members_in e.body) ≡ Some after → Prepared first next_w now r x after
+  next_prepared : (r x : ℕ) (e : LogEntry) (after : List ℕ) → slice_get (now.made r) x ≡ Some e → e.term ≡ r → (members_in e.bytes) ≡ Some after → Prepared first next_w now r x after
   next_prepared r x e after is own members = ⊎_elim
       (λ h.
       let here : slice_get s.after.log x ≡ Some e = ap (λ l. slice_get l x) (sym (made_in w g s r h.0 h.1)) ∙ is in
@@ -752,7 +753,7 @@ module _ (first : List ℕ) (w : Cluster) (g : Ghost) (s : Step) (inv : Invarian
       (λ same. old (ap (λ l. slice_get l x) (sym same) ∙ here))
       (λ (m : EntriesCreated first w s). ⊎_elim old
       (λ z. subst (λ (u : ℕ). Prepared first next_w now u x after) (sym h.1)
-      (subst (λ (u : ℕ). Prepared first next_w now s.after.term u after) (sym z.0) (prepared_now m after (ap (λ y. members_in y.body) (sym z.1) ∙ members))))
+      (subst (λ (u : ℕ). Prepared first next_w now s.after.term u after) (sym z.0) (prepared_now m after (ap (λ y. members_in y.bytes) (sym z.1) ∙ members))))
       (push_cases me.log m.entry e x (ap (λ l. slice_get l x) (sym m.result) ∙ here)))
       (leading_log h.0))
       (λ h.

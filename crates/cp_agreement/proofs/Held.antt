@@ -2,7 +2,7 @@
 use Rattle.std.proofs.Common.{◌≡◌, refl, ℕ, zero, suc, ◌<◌, ◌≤◌, inl, inr, ⊎_elim, List, length, take, sym, ◌∙◌, arith, subst, subst₂, Some, slice_get, length-take}
 use Rattle.std.proofs.lemmas.Bool.{cases_lt}
 use Rattle.std.proofs.lemmas.Option.{slice_get_within}
-use Rattle.cp_rules.specs.Entries.{Entry}
+use Rattle.cp_parts.specs.declared.log_entry.LogEntry.{LogEntry}
 use Rattle.cp_rules.specs.Configurations.{AreAdjacent, AreOneApart, HasQuorum, configuration_after}
 use Rattle.cp_agreement.specs.WholeLogs.{Cluster}
 use Rattle.cp_agreement.proofs.Logs.{Share, share_at, share_sym, share_trans, share_less, share_take, has_place, get-take}
@@ -11,10 +11,10 @@ use Rattle.cp_agreement.proofs.Ghost.{Ghost, Backs, Clash, Chosen, Invariant}
 use Rattle.cp_agreement.proofs.Complete.{complete, no_clash, prepare, Prep, sound_front}
 
 -- a front of a log, as a list of its own
-share_front : (l : List Entry) (n : ℕ) → n ≤ length l → Share n (take n l) l
+share_front : (l : List LogEntry) (n : ℕ) → n ≤ length l → Share n (take n l) l
 share_front l n le k less = let x = has_place l k (omega arith) in (x.0, get-take l n k less ∙ x.1, x.1)
 
-front_within : (l : List Entry) (n k : ℕ) (e : Entry) → slice_get (take n l) k ≡ Some e → k < n
+front_within : (l : List LogEntry) (n k : ℕ) (e : LogEntry) → slice_get (take n l) k ≡ Some e → k < n
 front_within l n k e is = omega (arith, slice_get_within (take n l) k e is, length-take n l)
 
 module _ (first : List ℕ) (w : Cluster) (g : Ghost) (inv : Invariant first w g) where
@@ -31,7 +31,7 @@ module _ (first : List ℕ) (w : Cluster) (g : Ghost) (inv : Invariant first w g
     pub members : List ℕ
     -- the configuration is that of the log of a leader, when it counted
     pub term : ℕ
-    pub till : List Entry
+    pub till : List LogEntry
     pub front : Share (length till) till (g.made term)
     pub members_are : members ≡ configuration_after first till
     pub near : AreAdjacent (configuration_after first (take (suc i) (g.made t))) members

@@ -2,24 +2,24 @@
 use Rattle.std.proofs.Common.{◌≡◌, ◌≢◌, ℕ, zero, suc, ◌+◌, ◌<◌, ◌≤◌, ◌⊎◌, inl, inr, ⊎_elim, ◌-◌, le_of_lt, List, [], ◌∷◌, ◌++◌, length, take, drop, refl, ap, sym, ◌∙◌, arith, Some, slice_get, zero-add, suc-add, add-zero, add-suc, length-take, length-append, length-drop}
 use Rattle.std.proofs.lemmas.Option.{slice_get_within, same_Some}
 use Rattle.std.proofs.lemmas.Bool.{cases_lt}
-use Rattle.cp_rules.specs.Entries.{Entry}
+use Rattle.cp_parts.specs.declared.log_entry.LogEntry.{LogEntry}
 use Rattle.cp_rules.specs.Logs.{HasEntries, HasTerm, HasTerms, IsUpToDate, Replaces}
 
 -- Both logs have n first entries, and these are equal. It stays so when either grows.
-abbrev pub Share : ℕ → List Entry → List Entry → Type 0
-Share n a b = (k : ℕ) → k < n → (e : Entry) × (slice_get a k ≡ Some e) × (slice_get b k ≡ Some e)
+abbrev pub Share : ℕ → List LogEntry → List LogEntry → Type 0
+Share n a b = (k : ℕ) → k < n → (e : LogEntry) × (slice_get a k ≡ Some e) × (slice_get b k ≡ Some e)
 
-pub share_less : (a b : List Entry) (n m : ℕ) → n ≤ m → Share m a b → Share n a b
+pub share_less : (a b : List LogEntry) (n m : ℕ) → n ≤ m → Share m a b → Share n a b
 share_less a b n m h both k l = both k (omega arith)
 
-pub share_sym : (a b : List Entry) (n : ℕ) → Share n a b → Share n b a
+pub share_sym : (a b : List LogEntry) (n : ℕ) → Share n a b → Share n b a
 share_sym a b n both k l = let x = both k l in (x.0, x.2, x.1)
 
-pub share_trans : (a b c : List Entry) (n : ℕ) → Share n a b → Share n b c → Share n a c
+pub share_trans : (a b c : List LogEntry) (n : ℕ) → Share n a b → Share n b c → Share n a c
 share_trans a b c n ab bc k l = let x = ab k l in let y = bc k l in (x.0, x.1, y.2 ∙ sym y.1 ∙ x.2)
 
 -- an entry of the one is the entry of the other
-pub share_at : (a b : List Entry) (n k : ℕ) (e : Entry) → Share n a b → k < n → slice_get a k ≡ Some e → slice_get b k ≡ Some e
+pub share_at : (a b : List LogEntry) (n k : ℕ) (e : LogEntry) → Share n a b → k < n → slice_get a k ≡ Some e → slice_get b k ≡ Some e
 share_at a b n k e both l is = let x = both k l in x.2 ∙ sym x.1 ∙ is
 
 pub has_place : {X : Type 0} (l : List X) (k : ℕ) → k < length l → (e : X) × (slice_get l k ≡ Some e)
@@ -49,22 +49,22 @@ get-append_right [] b k = rw zero-add refl
 get-append_right (x ∷ a) b k = rw suc-add (get-append_right a b k)
 
 -- Entries of one term at one place have equal fronts.
-abbrev pub Matches : List Entry → List Entry → Type 0
-Matches a b = (k : ℕ) (e f : Entry) → slice_get a k ≡ Some e → slice_get b k ≡ Some f → e.term ≡ f.term → Share (suc k) a b
+abbrev pub Matches : List LogEntry → List LogEntry → Type 0
+Matches a b = (k : ℕ) (e f : LogEntry) → slice_get a k ≡ Some e → slice_get b k ≡ Some f → e.term ≡ f.term → Share (suc k) a b
 
 -- Two logs that have the same term at an index share what lies up to it.
-pub reach_at : (a b : List Entry) (i t : ℕ) → Matches a b → HasTerm a i t → HasTerm b i t → Share i a b
+pub reach_at : (a b : List LogEntry) (i t : ℕ) → Matches a b → HasTerm a i t → HasTerm b i t → Share i a b
 reach_at a b zero t m ha hb = λ k l. absurd (omega arith)
 reach_at a b (suc i) t m ha hb = m i ha.0 hb.0 ha.1 hb.1 (ha.2 ∙ sym hb.2)
 
 -- A log that has the terms of the first d entries of a piece of b, which begins after p, shares with b what lies up to there.
-pub reach : (a b : List Entry) (p pt : ℕ) (es : List Entry) (d : ℕ) → Matches a b → HasTerm a p pt → HasTerm b p pt → HasEntries b p es → HasTerms a p es d → d ≤ length es → Share (p + d) a b
+pub reach : (a b : List LogEntry) (p pt : ℕ) (es : List LogEntry) (d : ℕ) → Matches a b → HasTerm a p pt → HasTerm b p pt → HasEntries b p es → HasTerms a p es d → d ≤ length es → Share (p + d) a b
 reach a b p pt es zero m ha hb piece terms l = rw add-zero (reach_at a b p pt m ha hb)
 reach a b p pt es (suc d) m ha hb piece terms l =
     let e = has_place es d (omega arith) in
     rw add-suc (reach_at a b (suc (p + d)) e.0.term m (terms d e.0 (omega arith) e.1) (e.0, piece d e.0 e.1, refl))
 
-module _ (a after : List Entry) (p : ℕ) (es : List Entry) (r : Replaces a p es after) where
+module _ (a after : List LogEntry) (p : ℕ) (es : List LogEntry) (r : Replaces a p es after) where
   -- What a replacement does to a log.
   replaced_fits : p + r.kept ≤ length a
   replaced_fits = ⊎_elim (λ e. omega (arith, e)) (λ x. le_of_lt (slice_get_within a (p + r.kept) x.0 x.1)) r.differs
@@ -82,14 +82,14 @@ module _ (a after : List Entry) (p : ℕ) (es : List Entry) (r : Replaces a p es
   replaced_length = omega (arith, ap length r.result, length-append (take (p + r.kept) a) (drop r.kept es), replaced_kept, length-drop r.kept es, slice_get_within es r.kept r.entry r.there)
 
 -- A log that follows a piece of the leader's log b by a replacement is a front of b.
-pub replaced_front : (a b after : List Entry) (p pt : ℕ) (es : List Entry) → Matches a b → HasTerm a p pt → HasTerm b p pt → HasEntries b p es → (r : Replaces a p es after) → Share (length after) after b
+pub replaced_front : (a b after : List LogEntry) (p pt : ℕ) (es : List LogEntry) → Matches a b → HasTerm a p pt → HasTerm b p pt → HasEntries b p es → (r : Replaces a p es after) → Share (length after) after b
 replaced_front a b after p pt es m ha hb piece r k l = ⊎_elim low high (cases_lt k (p + r.kept))
   where
-    low : k < p + r.kept → (e : Entry) × (slice_get after k ≡ Some e) × (slice_get b k ≡ Some e)
+    low : k < p + r.kept → (e : LogEntry) × (slice_get after k ≡ Some e) × (slice_get b k ≡ Some e)
     low h = let x = reach a b p pt es r.kept m ha hb piece r.same (le_of_lt (slice_get_within es r.kept r.entry r.there)) k h in
         (x.0, replaced_low a after p es r k h ∙ x.1, x.2)
 
-    high : p + r.kept ≤ k → (e : Entry) × (slice_get after k ≡ Some e) × (slice_get b k ≡ Some e)
+    high : p + r.kept ≤ k → (e : LogEntry) × (slice_get after k ≡ Some e) × (slice_get b k ≡ Some e)
     high h = let x = has_place es (k - p) (omega (arith, replaced_length a after p es r)) in (
       x.0,
       ap (slice_get after) (omega arith) ∙ replaced_high a after p es r (k - (p + r.kept)) ∙ ap (slice_get es) (omega arith) ∙ x.1,
@@ -97,11 +97,11 @@ replaced_front a b after p pt es m ha hb piece r k l = ⊎_elim low high (cases_
     )
 
 -- at some place up to k the two have entries of different terms
-abbrev pub Differ : ℕ → List Entry → List Entry → Type 0
-Differ k a b = (j : ℕ) × (j ≤ k) × (e : Entry) × (f : Entry) × (slice_get a j ≡ Some e) × (slice_get b j ≡ Some f) × (e.term ≢ f.term)
+abbrev pub Differ : ℕ → List LogEntry → List LogEntry → Type 0
+Differ k a b = (j : ℕ) × (j ≤ k) × (e : LogEntry) × (f : LogEntry) × (slice_get a j ≡ Some e) × (slice_get b j ≡ Some f) × (e.term ≢ f.term)
 
 -- What a log shares with c, it keeps through a replacement by a piece of b, or b and c differ there.
-pub kept_or_differ : (a b c after : List Entry) (p : ℕ) (es : List Entry) → HasEntries b p es → (r : Replaces a p es after) → (k : ℕ) → Share (suc k) a c → Share (suc k) after c ⊎ Differ k b c
+pub kept_or_differ : (a b c after : List LogEntry) (p : ℕ) (es : List LogEntry) → HasEntries b p es → (r : Replaces a p es after) → (k : ℕ) → Share (suc k) a c → Share (suc k) after c ⊎ Differ k b c
 kept_or_differ a b c after p es piece r k both = ⊎_elim kept lost (cases_lt k (p + r.kept))
   where
     kept : k < p + r.kept → Share (suc k) after c ⊎ Differ k b c
@@ -123,20 +123,20 @@ kept_or_differ a b c after p es piece r k both = ⊎_elim kept lost (cases_lt k 
         )
 
 -- No replacement by a piece of b changes a log that is b.
-pub own_unchanged : (a after : List Entry) (p : ℕ) (es : List Entry) → HasEntries a p es → Replaces a p es after → ⊥
+pub own_unchanged : (a after : List LogEntry) (p : ℕ) (es : List LogEntry) → HasEntries a p es → Replaces a p es after → ⊥
 own_unchanged a after p es piece r =
     ⊎_elim
     (λ e. omega (arith, e, slice_get_within a (p + r.kept) r.entry (piece r.kept r.entry r.there)))
     (λ y. y.2 (ap (λ z. z.term) (same_Some y.0 r.entry (sym y.1 ∙ piece r.kept r.entry r.there))))
     r.differs
 
-pub share_refl : (l : List Entry) (n : ℕ) → n ≤ length l → Share n l l
+pub share_refl : (l : List LogEntry) (n : ℕ) → n ≤ length l → Share n l l
 share_refl l n le k less = let x = has_place l k (omega arith) in (x.0, x.1, x.1)
 
-pub share_length : (a b : List Entry) (n : ℕ) → Share n a b → n ≤ length b
+pub share_length : (a b : List LogEntry) (n : ℕ) → Share n a b → n ≤ length b
 share_length a b n both = ⊎_elim (λ (less : length b < n). let x = both (length b) less in absurd (omega (arith, slice_get_within b (length b) x.0 x.2))) (λ le. le) (cases_lt (length b) n)
 
-pub longer : (a b : List Entry) → ((k : ℕ) (e : Entry) → slice_get a k ≡ Some e → slice_get b k ≡ Some e) → length a ≤ length b
+pub longer : (a b : List LogEntry) → ((k : ℕ) (e : LogEntry) → slice_get a k ≡ Some e → slice_get b k ≡ Some e) → length a ≤ length b
 longer a b h = share_length a b (length a) (λ k less. let x = has_place a k less in (x.0, x.1, h k x.0 x.1))
 
 -- an entry of a log with one more entry at its end
@@ -146,22 +146,22 @@ push_cases [] x e (suc k) is = absurd (cc)
 push_cases (y ∷ l) x e zero is = inl is
 push_cases (y ∷ l) x e (suc k) is = ⊎_elim inl (λ h. inr (ap suc h.0, h.1)) (push_cases l x e k is)
 
-pub has_term_grows : (a b : List Entry) → ((k : ℕ) (e : Entry) → slice_get a k ≡ Some e → slice_get b k ≡ Some e) → (i t : ℕ) → HasTerm a i t → HasTerm b i t
+pub has_term_grows : (a b : List LogEntry) → ((k : ℕ) (e : LogEntry) → slice_get a k ≡ Some e → slice_get b k ≡ Some e) → (i t : ℕ) → HasTerm a i t → HasTerm b i t
 has_term_grows a b h zero t has = has
 has_term_grows a b h (suc i) t has = (has.0, h i has.0 has.1, has.2)
 
 -- Every log ends somewhere.
-pub ends_somewhere : (log : List Entry) (n : ℕ) → n ≤ length log → (t : ℕ) × HasTerm log n t
+pub ends_somewhere : (log : List LogEntry) (n : ℕ) → n ≤ length log → (t : ℕ) × HasTerm log n t
 ends_somewhere log zero le = (0, refl)
 ends_somewhere log (suc n) le = let x = has_place log n le in (x.0.term, (x.0, x.1, refl))
 
 pub up_to_date_trans : (t i u j v k : ℕ) → IsUpToDate t i u j → IsUpToDate u j v k → IsUpToDate t i v k
 up_to_date_trans t i u j v k a b = grind arith
 
-pub differ_shared : (k n : ℕ) (a b : List Entry) → Differ k a b → Share n b a → k < n → ⊥
+pub differ_shared : (k n : ℕ) (a b : List LogEntry) → Differ k a b → Share n b a → k < n → ⊥
 differ_shared k n a b (j, l, e, f, he, hf, ne) both less = ne (ap (λ x. x.term) (same_Some e f (sym he ∙ share_at b a n j f both (omega arith) hf)))
 
-pub share_take : (a b : List Entry) (n : ℕ) → Share n a b → take n a ≡ take n b
+pub share_take : (a b : List LogEntry) (n : ℕ) → Share n a b → take n a ≡ take n b
 share_take a b zero both = refl
 share_take [] b (suc n) both = absurd (let x = both zero (omega arith) in let y = x.1 in cc)
 share_take (e ∷ a) [] (suc n) both = absurd (let x = both zero (omega arith) in let y = x.2 in cc)

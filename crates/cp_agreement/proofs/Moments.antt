@@ -2,7 +2,7 @@
 use Rattle.std.proofs.Common.{◌≡◌, ◌≢◌, ℕ, suc, ◌<◌, ◌≤◌, ◌⊎◌, inl, inr, ⊎_elim, true, List, [], ◌∷◌, ◌++◌, length, take, drop, refl, ap, sym, ◌∙◌, arith, subst, Contains, le_refl, true≢false, take-append-drop, take-take, lt_of_le_of_lt, le_of_lt}
 use Rattle.std.proofs.lemmas.Bool.{cases_lt}
 use Rattle.std.proofs.lemmas.List.{append_assoc, append-nil}
-use Rattle.cp_rules.specs.Entries.{Entry}
+use Rattle.cp_parts.specs.declared.log_entry.LogEntry.{LogEntry}
 use Rattle.std.proofs.lemmas.Option.{slice_get_within}
 use Rattle.cp_rules.specs.Configurations.{IsQuorum, AreAdjacent, HasQuorum, configuration_after}
 use Rattle.cp_rules.specs.Logs.{HasTerm, IsPrefixOf}
@@ -82,10 +82,10 @@ moment first [] meets v at = λ m. subst (λ (u : Cluster). Stood first opening 
 moment first (s ∷ before) meets v (inl e) = λ m. subst (λ (u : Cluster). Stood first (cluster_after (s ∷ before)) (ghost_of (s ∷ before)) m (u.member m)) (sym e) (stands first (cluster_after (s ∷ before)) (ghost_of (s ∷ before)) (invariant first (s ∷ before) meets) m)
 moment first (s ∷ before) meets v (inr at) = λ m. still first (cluster_after before) (ghost_of before) s (invariant first before meets.1) meets.0 m (v.member m) (moment first before meets.1 v at m)
 
-share_prefix : (a b : List Entry) (n : ℕ) → Share n a b → IsPrefixOf (take n a) b
+share_prefix : (a b : List LogEntry) (n : ℕ) → Share n a b → IsPrefixOf (take n a) b
 share_prefix a b n both = (drop n b, ap (λ l. l ++ drop n b) (share_take a b n both) ∙ take-append-drop n b)
 
-front_of : (a b : List Entry) (n m : ℕ) → n ≤ m → Share n a b → IsPrefixOf (take n a) (take m b)
+front_of : (a b : List LogEntry) (n m : ℕ) → n ≤ m → Share n a b → IsPrefixOf (take n a) (take m b)
 front_of a b n m le both = (drop n (take m b), ap (λ l. l ++ drop n (take m b)) (share_take a b n both ∙ sym (take-take n m b le)) ∙ take-append-drop n (take m b))
 
 module _ (first : List ℕ) (steps : List Step) (meets : MeetsFacts first steps) (v w : Cluster) (at_v : IsMoment steps v) (at_w : IsMoment steps w) (m n : ℕ) where
@@ -117,7 +117,7 @@ module _ (first : List ℕ) (steps : List Step) (meets : MeetsFacts first steps)
       hm.commit
 
 -- Of two committed lists, the one committed in the lower term is a front of the other or the other way round.
-ordered : (first : List ℕ) (w : Cluster) (g : Ghost) → Invariant first w g → (a b : List Entry) (n m u u' : ℕ) (x : Committed first w g a n u) (y : Committed first w g b m u') → x.term ≤ y.term → IsPrefixOf (take n a) (take m b) ⊎ IsPrefixOf (take m b) (take n a)
+ordered : (first : List ℕ) (w : Cluster) (g : Ghost) → Invariant first w g → (a b : List LogEntry) (n m u u' : ℕ) (x : Committed first w g a n u) (y : Committed first w g b m u') → x.term ≤ y.term → IsPrefixOf (take n a) (take m b) ⊎ IsPrefixOf (take m b) (take n a)
 ordered first w g inv a b n m u u' x y le =
     let later = complete first w g inv x.term x.place x.chosen y.term (inv.held y.term y.place y.chosen.entry y.chosen.there) le in
     let left : Share n a (g.made y.term) = share_trans a (g.made x.term) (g.made y.term) n x.same (share_less (g.made x.term) (g.made y.term) n (suc x.place) x.covers later) in
@@ -160,10 +160,10 @@ module _ (first : List ℕ) (steps : List Step) (meets : MeetsFacts first steps)
 -- One history.
 
 -- Prefixes of prefixes are prefixes.
-prefix_trans : (a b c : List Entry) → IsPrefixOf a b → IsPrefixOf b c → IsPrefixOf a c
+prefix_trans : (a b c : List LogEntry) → IsPrefixOf a b → IsPrefixOf b c → IsPrefixOf a c
 prefix_trans a b c (p, e) (q, f) = (p ++ q, sym (append_assoc a p q) ∙ ap (λ l. l ++ q) e ∙ f)
 
-prefix_refl : (a : List Entry) → IsPrefixOf a a
+prefix_refl : (a : List LogEntry) → IsPrefixOf a a
 prefix_refl a = ([], append-nil a)
 
 last_moment : (steps : List Step) → IsMoment steps (cluster_after steps)
@@ -178,7 +178,7 @@ record Longest (first : List ℕ) (steps : List Step) : Type 0 where
   all : (v : Cluster) → IsMoment steps v → (m : ℕ) → IsPrefixOf (committed (v.member m)) (committed (at.member of))
 
 -- A list has all committed lists as prefixes after a step if it had them before and has the actor's.
-all_after : (s : Step) (before : List Step) (history : List Entry) → IsPrefixOf (committed s.after) history
+all_after : (s : Step) (before : List Step) (history : List LogEntry) → IsPrefixOf (committed s.after) history
     → ((v : Cluster) → IsMoment before v → (m : ℕ) → IsPrefixOf (committed (v.member m)) history)
     → (v : Cluster) → IsMoment (s ∷ before) v → (m : ℕ) → IsPrefixOf (committed (v.member m)) history
 all_after s before history own old v (inr at) = λ m. old v at m
@@ -225,7 +225,7 @@ commit_within first steps meets v at m =
 
 -- There is one list of which each committed list is a prefix.
 pub one_history : (first : List ℕ) (steps : List Step) → MeetsFacts first steps
-    → (history : List Entry) × ((v : Cluster) → IsMoment steps v → (m : ℕ) → IsPrefixOf (committed (v.member m)) history × ((v.member m).commit ≤ length (v.member m).log))
+    → (history : List LogEntry) × ((v : Cluster) → IsMoment steps v → (m : ℕ) → IsPrefixOf (committed (v.member m)) history × ((v.member m).commit ≤ length (v.member m).log))
 one_history first steps meets = let h = longest first steps meets in (committed (h.at.member h.of), λ v at m. (h.all v at m, commit_within first steps meets v at m))
 
 -- Where no leader's log has a members entry, each committed entry is held at the end by a quorum of the first members.

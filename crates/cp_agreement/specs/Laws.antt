@@ -1,6 +1,6 @@
 -- The laws of agreement on whole logs. They speak of two states that an execution had, in either order, and of two of its members.
 use Rattle.std.specs.Prelude.{◌≡◌, ◌≢◌, ◌<◌, ◌≤◌, ◌⊎◌, true, ℕ, suc, Bool, List, length, take}
-use Rattle.cp_rules.specs.Entries.{Entry}
+use Rattle.cp_parts.specs.declared.log_entry.LogEntry.{LogEntry}
 use Rattle.cp_rules.specs.Configurations.{configuration_at, HasQuorum, IsQuorum, AreAdjacent}
 use Rattle.cp_rules.specs.Logs.{HasTerm, IsPrefixOf}
 use Rattle.cp_agreement.specs.WholeLogs.{Cluster, Step, MeetsFacts, IsMoment, cluster_after, committed, Facts, crash, cut_off}
@@ -28,7 +28,7 @@ CommittedPrefixes = (first : List ℕ) (steps : List Step) → MeetsFacts first 
 -- There is one list of which each committed list is a prefix, at any moment and of any member; and no commit lies past its log.
 abbrev pub OneHistory : Type 0
 OneHistory = (first : List ℕ) (steps : List Step) → MeetsFacts first steps
-    → (history : List Entry) × ((v : Cluster) → IsMoment steps v → (m : ℕ) → IsPrefixOf (committed (v.member m)) history × ((v.member m).commit ≤ length (v.member m).log))
+    → (history : List LogEntry) × ((v : Cluster) → IsMoment steps v → (m : ℕ) → IsPrefixOf (committed (v.member m)) history × ((v.member m).commit ≤ length (v.member m).log))
 
 -- Each committed entry is held at the end by a quorum of the configuration in force for it, or of an adjacent one.
 abbrev pub HeldAtEnd : Type 0

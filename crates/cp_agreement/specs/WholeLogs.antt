@@ -1,7 +1,8 @@
 -- The facts of a step again, for members that keep their whole log and take no snapshot. Agreement is proved here; cp_safety carries
 -- it to members with snapshots, each of which stands for such a one.
 use Rattle.std.specs.Prelude.{◌≡◌, ◌≢◌, ℕ, ◌+◌, ◌<◌, ◌≤◌, ◌⊎◌, Bool, true, false, List, [], ◌∷◌, ◌++◌, length, take, Option, Some, None, slice_get, Contains}
-use Rattle.cp_rules.specs.Entries.{Entry, members_in}
+use Rattle.cp_parts.specs.declared.log_entry.LogEntry.{LogEntry}
+use Rattle.cp_rules.specs.Entries.{members_in}
 use Rattle.cp_rules.specs.Configurations.{configuration_after, HasQuorum, AreOneApart}
 use Rattle.cp_rules.specs.Logs.{HasTerm, EndsAt, IsUpToDate, HasEntries, HasTerms, Replaces}
 use Rattle.cp_rules.specs.Clusters.{Message, Vote, Voted, Append, Appended, put}
@@ -10,7 +11,7 @@ use Rattle.cp_rules.specs.Clusters.{Message, Vote, Voted, Append, Appended, put}
 pub record Member : Type 0 where
   pub term : ℕ
   pub vote : ℕ
-  pub log : List Entry
+  pub log : List LogEntry
   pub commit : ℕ
   pub is_leader : Bool
 
@@ -78,7 +79,7 @@ VotesGiven w s = (voter candidate term : ℕ) → Contains s.sends (Voted voter 
 -- term said, and a quorum of the configuration at the end of its log said yes, itself counted.
 pub record WinsElection (first : List ℕ) (w : Cluster) (s : Step) : Type 0 where
   pub vote : s.after.vote ≡ s.actor
-  pub fresh : (k : ℕ) (e : Entry) → slice_get (before w s).log k ≡ Some e → e.term < s.after.term
+  pub fresh : (k : ℕ) (e : LogEntry) → slice_get (before w s).log k ≡ Some e → e.term < s.after.term
   pub spelled : (last_term last_index : ℕ) → Contains w.sent (Vote s.actor s.after.term last_term last_index) → EndsAt (before w s).log last_term last_index
   pub quorum : HasQuorum (configuration_after first (before w s).log) (λ v. (v ≡ s.actor) ⊎ Contains w.sent (Voted v s.actor s.after.term))
 
@@ -91,23 +92,23 @@ pub record LeadersElected (first : List ℕ) (w : Cluster) (s : Step) : Type 0 w
 -- the leader's own term.
 pub record ChangesAreSingle (first : List ℕ) (w : Cluster) (s : Step) (members : List ℕ) : Type 0 where
   pub one_apart : AreOneApart (configuration_after first (before w s).log) members
-  pub settled : (k : ℕ) (e : Entry) → (before w s).commit ≤ k → slice_get (before w s).log k ≡ Some e → members_in e.body ≡ None
-  pub own : (k : ℕ) × (e : Entry) × (k < (before w s).commit) × (slice_get (before w s).log k ≡ Some e) × (e.term ≡ s.after.term)
+  pub settled : (k : ℕ) (e : LogEntry) → (before w s).commit ≤ k → slice_get (before w s).log k ≡ Some e → members_in e.bytes ≡ None
+  pub own : (k : ℕ) × (e : LogEntry) × (k < (before w s).commit) × (slice_get (before w s).log k ≡ Some e) × (e.term ≡ s.after.term)
 
 -- Only the leader creates an entry: one of its term, at the end of its log.
 pub record EntriesCreated (first : List ℕ) (w : Cluster) (s : Step) : Type 0 where
-  pub entry : Entry
+  pub entry : LogEntry
   pub own : entry.term ≡ s.after.term
   pub leading : s.leads ≡ true
   pub result : s.after.log ≡ (before w s).log ++ (entry ∷ [])
-  pub change : (members : List ℕ) → members_in entry.body ≡ Some members → ChangesAreSingle first w s members
+  pub change : (members : List ℕ) → members_in entry.bytes ≡ Some members → ChangesAreSingle first w s members
 
 -- An Append of the member's term, as it then is, came.
 pub record GotAppend (w : Cluster) (s : Step) : Type 0 where
   pub sender : ℕ
   pub previous : ℕ
   pub previous_term : ℕ
-  pub entries : List Entry
+  pub entries : List LogEntry
   pub commit : ℕ
   pub got : s.got ≡ Some (Append sender s.after.term previous previous_term entries commit)
 
@@ -118,7 +119,7 @@ pub record FollowsLeader (w : Cluster) (s : Step) : Type 0 where
   pub change : (s.after.log ≡ (before w s).log) ⊎ Replaces (before w s).log came.previous came.entries s.after.log
 
 -- What an Append says: entries that follow an index of the leader's log, the term of that index, and the leader's commit.
-pub record SendsAppend (s : Step) (sender term previous previous_term : ℕ) (entries : List Entry) (commit : ℕ) : Type 0 where
+pub record SendsAppend (s : Step) (sender term previous previous_term : ℕ) (entries : List LogEntry) (commit : ℕ) : Type 0 where
   pub sender_is : sender ≡ s.actor
   pub term_is : term ≡ s.after.term
   pub leading : s.leads ≡ true
@@ -136,7 +137,7 @@ pub record SendsVote (s : Step) (candidate term last_term last_index : ℕ) : Ty
 -- Logs follow the leader: beside what a leader creates, a log changes by an Append of the member's term alone.
 pub record LogsFollow (first : List ℕ) (w : Cluster) (s : Step) : Type 0 where
   pub log : (s.after.log ≡ (before w s).log) ⊎ (EntriesCreated first w s ⊎ FollowsLeader w s)
-  pub append : (sender term previous previous_term : ℕ) (entries : List Entry) (commit : ℕ) → Contains s.sends (Append sender term previous previous_term entries commit)
+  pub append : (sender term previous previous_term : ℕ) (entries : List LogEntry) (commit : ℕ) → Contains s.sends (Append sender term previous previous_term entries commit)
       → SendsAppend s sender term previous previous_term entries commit
   pub ask : (candidate term last_term last_index : ℕ) → Contains s.sends (Vote candidate term last_term last_index) → SendsVote s candidate term last_term last_index
 
@@ -196,7 +197,7 @@ abbrev pub MeetsFacts : List ℕ → List Step → Type 0
 MeetsFacts first [] = Unit {0}
 MeetsFacts first (s ∷ earlier) = Facts first (cluster_after earlier) s × MeetsFacts first earlier
 
-abbrev pub committed : Member → List Entry
+abbrev pub committed : Member → List LogEntry
 committed m = take m.commit m.log
 
 -- The same step, cut off by a crash: what it wrote stands, and nothing was sent.

@@ -1,6 +1,6 @@
 -- The members of one group, what they send each other, and executions as lists of steps.
 use Rattle.std.specs.Prelude.{◌≡◌, ℕ, ◌⊎◌, Bool, false, List, [], ◌∷◌, ◌++◌, Option, if◌then◌else◌, ◌==◌}
-use Rattle.cp_rules.specs.Entries.{Entry}
+use Rattle.cp_parts.specs.declared.log_entry.LogEntry.{LogEntry}
 
 -- What agreement reads of a member. A crash leaves all but the last two. The base is the index of the member's snapshot, 0 where it
 -- has none; with it stand the term of that index and the configuration in force there. The log is what follows the base.
@@ -12,7 +12,7 @@ pub record Member : Type 0 where
   pub base : ℕ
   pub base_term : ℕ
   pub base_members : List ℕ
-  pub log : List Entry
+  pub log : List LogEntry
   -- volatile
   pub commit : ℕ
   pub is_leader : Bool
@@ -22,7 +22,7 @@ pub record Member : Type 0 where
 pub data Message : Type 0 where
   Vote : (candidate term last_term last_index : ℕ) → Message
   Voted : (voter candidate term : ℕ) → Message
-  Append : (sender term previous previous_term : ℕ) (entries : List Entry) (commit : ℕ) → Message
+  Append : (sender term previous previous_term : ℕ) (entries : List LogEntry) (commit : ℕ) → Message
   Appended : (member to term index : ℕ) → Message
   Snapshot : (sender term index index_term : ℕ) (members : List ℕ) → Message
   Done : (member to term index : ℕ) → Message

@@ -1,18 +1,19 @@
 -- Configurations, quorums, and which configurations are adjacent.
 use Rattle.std.specs.Prelude.{◌≡◌, ℕ, ◌*◌, ◌<◌, ◌⊎◌, Bool, true, List, [], ◌∷◌, ◌++◌, length, take, Option, Some, None, count_by}
-use Rattle.cp_rules.specs.Entries.{Entry, members_in}
+use Rattle.cp_parts.specs.declared.log_entry.LogEntry.{LogEntry}
+use Rattle.cp_rules.specs.Entries.{members_in}
 
 abbrev pub members_or : Option (List ℕ) → List ℕ → List ℕ
 members_or None before = before
 members_or (Some after) before = after
 
 -- The configuration in force after a log: that of its last members entry, committed or not, else the first members.
-abbrev pub configuration_after : List ℕ → List Entry → List ℕ
+abbrev pub configuration_after : List ℕ → List LogEntry → List ℕ
 configuration_after first [] = first
-configuration_after first (e ∷ log) = configuration_after (members_or (members_in e.body) first) log
+configuration_after first (e ∷ log) = configuration_after (members_or (members_in e.bytes) first) log
 
 -- The configuration in force at an index of a log.
-abbrev pub configuration_at : List ℕ → List Entry → ℕ → List ℕ
+abbrev pub configuration_at : List ℕ → List LogEntry → ℕ → List ℕ
 configuration_at first log index = configuration_after first (take index log)
 
 -- A choice of members is a quorum of a configuration where it has more than half of its members.

@@ -1,6 +1,7 @@
 -- What agreement asks of each step. Each fact relates the state before a step with the step: what came, what was left, what was sent.
 use Rattle.std.specs.Prelude.{◌≡◌, ◌≢◌, ℕ, suc, ◌+◌, ◌-◌, ◌<◌, ◌≤◌, ◌⊎◌, true, List, [], ◌∷◌, ◌++◌, length, take, drop, Some, None, slice_get, Contains}
-use Rattle.cp_rules.specs.Entries.{Entry, members_in}
+use Rattle.cp_parts.specs.declared.log_entry.LogEntry.{LogEntry}
+use Rattle.cp_rules.specs.Entries.{members_in}
 use Rattle.cp_rules.specs.Configurations.{configuration_after, HasQuorum, AreOneApart}
 use Rattle.cp_rules.specs.Logs.{IsUpToDate, HasEntries, Replaces}
 use Rattle.cp_rules.specs.Clusters.{Member, Message, Vote, Voted, Append, Appended, Snapshot, Done, Cluster, Step, cluster_after}
@@ -11,7 +12,7 @@ before w s = w.member s.actor
 
 -- The member knows the term of an index: it is the base, or an entry after it.
 abbrev pub KnowsTerm : Member → ℕ → ℕ → Type 0
-KnowsTerm m i t = ((i ≡ m.base) × (t ≡ m.base_term)) ⊎ ((k : ℕ) × (i ≡ suc (m.base + k)) × ((e : Entry) × (slice_get m.log k ≡ Some e) × (e.term ≡ t)))
+KnowsTerm m i t = ((i ≡ m.base) × (t ≡ m.base_term)) ⊎ ((k : ℕ) × (i ≡ suc (m.base + k)) × ((e : LogEntry) × (slice_get m.log k ≡ Some e) × (e.term ≡ t)))
 
 -- the last index that the member has, and its term
 abbrev pub LogEndsAt : Member → ℕ → ℕ → Type 0
@@ -72,24 +73,24 @@ KeepsLog w s = SameBase s.after (before w s) × (s.after.log ≡ (before w s).lo
 -- the leader's own term.
 pub record ChangesAreSingle (w : Cluster) (s : Step) (members : List ℕ) : Type 0 where
   pub one_apart : AreOneApart (configuration_of (before w s)) members
-  pub settled : (k : ℕ) (e : Entry) → (before w s).commit ≤ (before w s).base + k → slice_get (before w s).log k ≡ Some e → members_in e.body ≡ None
+  pub settled : (k : ℕ) (e : LogEntry) → (before w s).commit ≤ (before w s).base + k → slice_get (before w s).log k ≡ Some e → members_in e.bytes ≡ None
   pub own : (i : ℕ) × (0 < i) × (i ≤ (before w s).commit) × KnowsTerm (before w s) i s.after.term
 
 -- Only the leader creates an entry: one of its term, at the end of its log.
 pub record EntriesCreated (w : Cluster) (s : Step) : Type 0 where
   pub base : SameBase s.after (before w s)
-  pub entry : Entry
+  pub entry : LogEntry
   pub own : entry.term ≡ s.after.term
   pub leading : s.leads ≡ true
   pub result : s.after.log ≡ (before w s).log ++ (entry ∷ [])
-  pub change : (members : List ℕ) → members_in entry.body ≡ Some members → ChangesAreSingle w s members
+  pub change : (members : List ℕ) → members_in entry.bytes ≡ Some members → ChangesAreSingle w s members
 
 -- An Append of the member's term, as it then is, came.
 pub record GotAppend (w : Cluster) (s : Step) : Type 0 where
   pub sender : ℕ
   pub previous : ℕ
   pub previous_term : ℕ
-  pub entries : List Entry
+  pub entries : List LogEntry
   pub commit : ℕ
   pub got : s.got ≡ Some (Append sender s.after.term previous previous_term entries commit)
 
@@ -130,7 +131,7 @@ pub record InstallsSnapshot (w : Cluster) (s : Step) : Type 0 where
       ⊎ ((KnowsTerm (before w s) s.after.base s.after.base_term → ⊥) × (s.after.log ≡ []))
 
 -- What an Append says: entries that follow an index of the leader's log, the term of that index, and the leader's commit.
-pub record SendsAppend (s : Step) (sender term previous previous_term : ℕ) (entries : List Entry) (commit : ℕ) : Type 0 where
+pub record SendsAppend (s : Step) (sender term previous previous_term : ℕ) (entries : List LogEntry) (commit : ℕ) : Type 0 where
   pub sender_is : sender ≡ s.actor
   pub term_is : term ≡ s.after.term
   pub leading : s.leads ≡ true
@@ -160,7 +161,7 @@ pub record SendsVote (s : Step) (candidate term last_term last_index : ℕ) : Ty
 -- the member's own snapshots. A leader sends what its log has.
 pub record LogsFollow (w : Cluster) (s : Step) : Type 0 where
   pub log : KeepsLog w s ⊎ (EntriesCreated w s ⊎ (FollowsAbove w s ⊎ (FollowsBelow w s ⊎ (TakesSnapshot w s ⊎ InstallsSnapshot w s))))
-  pub append : (sender term previous previous_term : ℕ) (entries : List Entry) (commit : ℕ) → Contains s.sends (Append sender term previous previous_term entries commit)
+  pub append : (sender term previous previous_term : ℕ) (entries : List LogEntry) (commit : ℕ) → Contains s.sends (Append sender term previous previous_term entries commit)
       → SendsAppend s sender term previous previous_term entries commit
   pub snapshot : (sender term index index_term : ℕ) (members : List ℕ) → Contains s.sends (Snapshot sender term index index_term members)
       → SendsSnapshot s sender term index index_term members
@@ -171,7 +172,7 @@ pub record Acknowledges (w : Cluster) (s : Step) (index : ℕ) : Type 0 where
   pub came : GotAppend w s
   pub index_is : index ≡ came.previous + length came.entries
   pub has : s.after.base ≤ came.previous → KnowsTerm s.after came.previous came.previous_term
-  pub all : (k : ℕ) (e : Entry) → slice_get came.entries k ≡ Some e → s.after.base ≤ came.previous + k → KnowsTerm s.after (suc (came.previous + k)) e.term
+  pub all : (k : ℕ) (e : LogEntry) → slice_get came.entries k ≡ Some e → s.after.base ≤ came.previous + k → KnowsTerm s.after (suc (came.previous + k)) e.term
 
 -- The snapshot of this index that came is installed in this step, or its index was committed before.
 pub record Finishes (w : Cluster) (s : Step) (index : ℕ) : Type 0 where

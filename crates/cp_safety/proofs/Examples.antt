@@ -2,7 +2,13 @@
 use Rattle.std.proofs.Common.{◌≡◌, ◌≢◌, ℕ, zero, suc, ◌+◌, ◌≤◌, ◌⊎◌, inl, inr, ⊎_elim, Bool, true, false, List, [], ◌∷◌, refl, ap, sym, ◌∙◌, arith, subst, Some, None, Option, slice_get, Contains, true≢false, ◌==◌, ◌||◌, zero-add}
 use Rattle.std.proofs.lemmas.Bool.{or_cases, cases_eq, ne_eqb}
 use Rattle.std.proofs.lemmas.Option.{same_Some, slice_get_within}
-use Rattle.cp_rules.specs.Entries.{Entry}
+use Rattle.cp_grammar.specs.Grammar.{whole}
+use Rattle.cp_grammar.specs.Fields.{mark_reading, number_reading}
+use Rattle.cp_grammar.specs.Lists.{items_reading}
+use Rattle.cp_spelling.specs.Common.{members, member_after}
+use Rattle.cp_parts.specs.Configs.{members_entry, config_in}
+use Rattle.cp_parts.specs.declared.log_entry.LogEntry.{LogEntry}
+use Rattle.cp_rules.specs.Entries.{members_in}
 use Rattle.cp_rules.specs.Clusters.{Member, Message, Vote, Voted, Append, Appended, Snapshot, Done, Other, Cluster, Step, cluster_after}
 use Rattle.cp_rules.specs.Facts.{before, KnowsTerm, LogEndsAt, KeepsLog, EntriesCreated, FollowsAbove, FollowsBelow, TakesSnapshot, InstallsSnapshot, SendsAppend, SendsVote, GivesVote, Acknowledges, LeaderCommits, FollowerCommits, OtherFacts, VotesGiven, LeadersElected, WinsElection, ChangesAreSingle, MeetsFacts}
 use Rattle.cp_safety.specs.Examples.{three, alone, entry, adds_two, adds_three, member_of, asks, votes, wins, acknowledges, commits, second_asks, says_yes, says_yes_again, first_wins, second_wins_too, leads_alone, adds_second, second_follows, commits_second, adds_third, second_follows_again, second_stands, third_votes, second_wins, elects_and_commits, votes_twice, stands_late, MeetsAllButVotes, MeetsWithAnyLog, LeadersElectedWithAnyLog}
@@ -110,7 +116,7 @@ fresh : (first : List ℕ) (term vote : ℕ) (t i : ℕ) → KnowsTerm (member_o
 fresh first term vote t i (inl h) = h.1
 fresh first term vote t i (inr (k, e, (x, at, xt))) = absurd (cc)
 
-third_piece : (k : ℕ) (e : Entry) → slice_get (adds_three ∷ []) k ≡ Some e → slice_get (entry ∷ adds_two ∷ adds_three ∷ []) (2 + k) ≡ Some e
+third_piece : (k : ℕ) (e : LogEntry) → slice_get (adds_three ∷ []) k ≡ Some e → slice_get (entry ∷ adds_two ∷ adds_three ∷ []) (2 + k) ≡ Some e
 third_piece k e is = let two : suc (suc k) ≡ 2 + k = omega arith in subst (λ n. slice_get (entry ∷ adds_two ∷ adds_three ∷ []) n ≡ Some e) two is
 
 asks_shown : Shown (cluster_after three []) asks
@@ -138,6 +144,7 @@ votes_shown = record {
 }
 
 wins_shown : Shown (cluster_after three (votes ∷ asks ∷ [])) wins
+unfolding members_in config_in members_entry whole mark_reading number_reading members items_reading member_after
 wins_shown = record {
   named = omega arith;
   came = (1, omega arith, refl);
@@ -162,6 +169,7 @@ acknowledges_shown = record {
 }
 
 commits_shown : Shown (cluster_after three (acknowledges ∷ wins ∷ votes ∷ asks ∷ [])) commits
+unfolding members_in config_in members_entry whole mark_reading number_reading members items_reading member_after
 commits_shown = record {
   named = omega arith;
   came = (3, omega arith, refl);
@@ -210,6 +218,7 @@ says_yes_again_shown = record {
 }
 
 first_wins_shown : Shown (cluster_after three (says_yes_again ∷ says_yes ∷ second_asks ∷ asks ∷ [])) first_wins
+unfolding members_in config_in members_entry whole mark_reading number_reading members items_reading member_after
 first_wins_shown = record {
   named = omega arith;
   came = (2, omega arith, refl);
@@ -222,6 +231,7 @@ first_wins_shown = record {
 }
 
 second_wins_too_shown : Shown (cluster_after three (first_wins ∷ says_yes_again ∷ says_yes ∷ second_asks ∷ asks ∷ [])) second_wins_too
+unfolding members_in config_in members_entry whole mark_reading number_reading members items_reading member_after
 second_wins_too_shown = record {
   named = omega arith;
   came = (3, omega arith, refl);
@@ -234,6 +244,7 @@ second_wins_too_shown = record {
 }
 
 leads_alone_shown : Shown (cluster_after alone []) leads_alone
+unfolding members_in config_in members_entry whole mark_reading number_reading members items_reading member_after
 leads_alone_shown = record {
   named = omega arith;
   came = tt;
@@ -246,6 +257,7 @@ leads_alone_shown = record {
 }
 
 adds_second_shown : Shown (cluster_after alone (leads_alone ∷ [])) adds_second
+unfolding members_in config_in members_entry whole mark_reading number_reading members items_reading member_after
 adds_second_shown = record {
   named = omega arith;
   came = tt;
@@ -270,6 +282,7 @@ second_follows_shown = record {
 }
 
 commits_second_shown : Shown (cluster_after alone (second_follows ∷ adds_second ∷ leads_alone ∷ [])) commits_second
+unfolding members_in config_in members_entry whole mark_reading number_reading members items_reading member_after
 commits_second_shown = record {
   named = omega arith;
   came = (1, omega arith, refl);
@@ -282,6 +295,7 @@ commits_second_shown = record {
 }
 
 adds_third_shown : Shown (cluster_after alone (commits_second ∷ second_follows ∷ adds_second ∷ leads_alone ∷ [])) adds_third
+unfolding members_in config_in members_entry whole mark_reading number_reading members items_reading member_after
 adds_third_shown = record {
   named = omega arith;
   came = tt;
@@ -429,6 +443,7 @@ leads_alone_elected : LeadersElectedWithAnyLog (cluster_after alone []) leads_al
 leads_alone_elected = record { leads = λ h. refl; elected = λ h. inr (record { vote = refl; quorum = (pair 1 1, omega arith, λ v chosen. inl (⊎_elim (λ e. e) (λ e. e) (pair_cases 1 1 v chosen))) }) }
 
 second_wins_elected : LeadersElectedWithAnyLog (cluster_after alone (third_votes ∷ second_stands ∷ second_follows_again ∷ adds_third ∷ commits_second ∷ second_follows ∷ adds_second ∷ leads_alone ∷ [])) second_wins
+unfolding members_in config_in members_entry whole mark_reading number_reading members items_reading member_after
 second_wins_elected = record { leads = λ h. refl; elected = λ h. inr (record { vote = refl; quorum = (pair 2 3, omega arith, λ v chosen. ⊎_elim inl (λ e. inr (subst (λ x. Contains (cluster_after alone (third_votes ∷ second_stands ∷ second_follows_again ∷ adds_third ∷ commits_second ∷ second_follows ∷ adds_second ∷ leads_alone ∷ [])).sent (Voted x 2 1)) (sym e) (4, omega arith, refl))) (pair_cases 2 3 v chosen)) }) }
 
 third_gives : GivesVote (cluster_after alone (second_stands ∷ second_follows_again ∷ adds_third ∷ commits_second ∷ second_follows ∷ adds_second ∷ leads_alone ∷ [])) third_votes 3 2 1

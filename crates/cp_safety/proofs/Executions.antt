@@ -1,7 +1,7 @@
 -- An execution of members with snapshots stands for one on whole logs.
 use Rattle.std.proofs.Common.{slice_get, inl, inr, ◌≡◌, ℕ, zero, suc, ◌≤◌, ⊎_elim, List, [], ◌∷◌, ◌++◌, map, refl, ap, sym, ◌∙◌, arith, subst, Contains}
 use Rattle.std.proofs.lemmas.List.Elements.{Contains-append_cases}
-use Rattle.cp_rules.specs.Entries.{Entry}
+use Rattle.cp_parts.specs.declared.log_entry.LogEntry.{LogEntry}
 use Rattle.cp_rules.specs.Logs.{HasTerm}
 use Rattle.cp_rules.specs.Clusters.{Append, Cluster, Member, Message, Snapshot, Step, Vote, after_step, cluster_after, put}
 use Rattle.cp_rules.specs.Facts.{KnowsTerm, MeetsFacts, before}
@@ -22,7 +22,7 @@ use Rattle.cp_safety.proofs.Steps.{next_fit, next_heard, next_stand, outcome, st
 record Beside (first : List ℕ) (steps : List Step) : Type 0 where
   plain : List whole.Step
   meets : whole.MeetsFacts first plain
-  logs : ℕ → List Entry
+  logs : ℕ → List LogEntry
   sent : List Message
   is : whole.cluster_after plain ≡ stand (cluster_after first steps) logs sent
   fit : (m : ℕ) → StandsForLog first ((cluster_after first steps).member m) (logs m)
@@ -30,7 +30,7 @@ record Beside (first : List ℕ) (steps : List Step) : Type 0 where
   through : StandsThrough first steps plain
   quiet : KeepsMembers first steps → ((m : ℕ) → QuietFrom (logs m) 0) × ((t : ℕ) → QuietFrom ((ghost_of plain).made t) 0)
 
-stands_for : (first : List ℕ) (b : Member) (l : List Entry) → StandsForLog first b l → StandsFor first b (standing b l)
+stands_for : (first : List ℕ) (b : Member) (l : List LogEntry) → StandsForLog first b l → StandsFor first b (standing b l)
 stands_for first b l f = record { term = refl; commit = refl; leader = refl; log = f }
 
 -- By induction on the steps.
@@ -112,12 +112,12 @@ known first steps meets =
       above = λ m. (b.fit m).above;
     }
   where
-    has_upto : (g : Ghost) (l : List Entry) (u : ℕ) → Sound g l u → (i t : ℕ) → HasTerm l i t → t ≤ u
+    has_upto : (g : Ghost) (l : List LogEntry) (u : ℕ) → Sound g l u → (i t : ℕ) → HasTerm l i t → t ≤ u
     has_upto g l u sound zero t has = omega (arith, has)
     has_upto g l u sound (suc i) t has = subst (λ n. n ≤ u) has.2 (sound.upto i has.0 has.1)
 
 -- What is sent of a term in an Append is sent by the one leader of that term.
-sender_holds : (first : List ℕ) (steps : List whole.Step) → whole.MeetsFacts first steps → (f t p pt : ℕ) (es : List Entry) (c : ℕ) → Contains (whole.cluster_after steps).sent (Append f t p pt es c) → (ghost_of steps).leader t ≡ f
+sender_holds : (first : List ℕ) (steps : List whole.Step) → whole.MeetsFacts first steps → (f t p pt : ℕ) (es : List LogEntry) (c : ℕ) → Contains (whole.cluster_after steps).sent (Append f t p pt es c) → (ghost_of steps).leader t ≡ f
 sender_holds first [] meets f t p pt es c has = absurd (omega (arith, has.1))
 sender_holds first (s ∷ before) meets f t p pt es c has = ⊎_elim
     (λ (old : Contains (whole.cluster_after before).sent (Append f t p pt es c)).

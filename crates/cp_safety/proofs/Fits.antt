@@ -2,7 +2,7 @@
 use Rattle.std.proofs.Common.{◌≡◌, ◌≢◌, ℕ, zero, suc, ◌+◌, ◌-◌, ◌<◌, ◌≤◌, ◌⊎◌, inl, inr, ⊎_elim, List, [], ◌∷◌, ◌++◌, length, take, drop, ap, ap₂, sym, ◌∙◌, arith, subst, Some, slice_get, take-append-drop, length-drop, length-take, zero-add}
 use Rattle.std.proofs.lemmas.Bool.{cases_lt, cases_eq}
 use Rattle.std.proofs.lemmas.Option.{slice_get_within, same_Some}
-use Rattle.cp_rules.specs.Entries.{Entry}
+use Rattle.cp_parts.specs.declared.log_entry.LogEntry.{LogEntry}
 use Rattle.cp_rules.specs.Configurations.{configuration_after}
 use Rattle.cp_rules.specs.Logs.{EndsAt, HasTerm, HasTerms}
 use Rattle.cp_rules.specs.Clusters.{Member}
@@ -11,7 +11,7 @@ use Rattle.cp_safety.specs.Standing.{StandsForLog}
 use Rattle.cp_agreement.proofs.Logs.{Share, get-append_left, get-drop, get-take, has_place}
 use Rattle.cp_safety.proofs.Lists.{configuration_after-append, has_term_same}
 
-module _ (first : List ℕ) (b : Member) (l : List Entry) (fit : StandsForLog first b l) where
+module _ (first : List ℕ) (b : Member) (l : List LogEntry) (fit : StandsForLog first b l) where
   -- the log after the base
   pub at_log : (k : ℕ) → slice_get b.log k ≡ slice_get l (b.base + k)
   at_log k = ap (λ r. slice_get r k) fit.log ∙ get-drop l b.base k
@@ -43,24 +43,24 @@ module _ (first : List ℕ) (b : Member) (l : List Entry) (fit : StandsForLog fi
   members_is = ap₂ configuration_after fit.members fit.log ∙ sym (configuration_after-append first (take b.base l) (drop b.base l)) ∙ ap (configuration_after first) (take-append-drop b.base l)
 
 -- A replacement keeps the front before it.
-pub keep_front : (l rest : List Entry) (n m : ℕ) → m ≤ n → m ≤ length l → Share m (take n l ++ rest) l
+pub keep_front : (l rest : List LogEntry) (n m : ℕ) → m ≤ n → m ≤ length l → Share m (take n l ++ rest) l
 keep_front l rest n m le fits k less =
     let x = has_place l k (omega arith) in
     (x.0, get-append_left (take n l) rest k (omega (arith, length-take n l)) ∙ get-take l n k (omega arith) ∙ x.1, x.1)
 
-pub keep_push : (l : List Entry) (e : Entry) (m : ℕ) → m ≤ length l → Share m (l ++ (e ∷ [])) l
+pub keep_push : (l : List LogEntry) (e : LogEntry) (m : ℕ) → m ≤ length l → Share m (l ++ (e ∷ [])) l
 keep_push l e m fits k less = let x = has_place l k (omega arith) in (x.0, get-append_left l (e ∷ []) k (omega arith) ∙ x.1, x.1)
 
 -- where the entries first differ from the log, or that they don't
-pub record Difference (l es : List Entry) : Type 0 where
+pub record Difference (l es : List LogEntry) : Type 0 where
   pub d : ℕ
-  pub entry : Entry
+  pub entry : LogEntry
   pub there : slice_get es d ≡ Some entry
   pub same : HasTerms l 0 es d
-  pub differs : (length l ≡ 0 + d) ⊎ ((e : Entry) × (slice_get l (0 + d) ≡ Some e) × (e.term ≢ entry.term))
+  pub differs : (length l ≡ 0 + d) ⊎ ((e : LogEntry) × (slice_get l (0 + d) ≡ Some e) × (e.term ≢ entry.term))
 
 -- The first difference is found by search.
-pub first_difference : (l es : List Entry) (n : ℕ) → n ≤ length es → HasTerms l 0 es n ⊎ Difference l es
+pub first_difference : (l es : List LogEntry) (n : ℕ) → n ≤ length es → HasTerms l 0 es n ⊎ Difference l es
 first_difference l es zero le = inl (λ k e less is. absurd (omega arith))
 first_difference l es (suc n) le = ⊎_elim more inr (first_difference l es n (omega arith))
   where

@@ -3,7 +3,7 @@ use Rattle.std.proofs.Common.{◌≡◌, ℕ, zero, suc, ◌+◌, ◌-◌, ◌<�
 use Rattle.std.proofs.Math.Seq.{take-append_seam}
 use Rattle.std.proofs.lemmas.Bool.{cases_lt}
 use Rattle.std.proofs.lemmas.Option.{same_Some}
-use Rattle.cp_rules.specs.Entries.{Entry}
+use Rattle.cp_parts.specs.declared.log_entry.LogEntry.{LogEntry}
 use Rattle.cp_rules.specs.Configurations.{AreAdjacent, HasQuorum, configuration_after, configuration_at}
 use Rattle.cp_rules.specs.Logs.{HasTerm, IsPrefixOf}
 use Rattle.cp_rules.specs.Clusters.{Member, Cluster, Step, IsMoment, cluster_after, opening}
@@ -44,18 +44,18 @@ stands_now first [] plain through m = subst (λ p. StandsFor first ((opening fir
 stands_now first (s ∷ steps) plain (p, ps, is, stands, rest) m = stands m
 
 -- What two logs with equal fronts have at a place of the front.
-same_at : (a b : List Entry) (n k : ℕ) → take n a ≡ take n b → k < n → slice_get a k ≡ slice_get b k
+same_at : (a b : List LogEntry) (n k : ℕ) → take n a ≡ take n b → k < n → slice_get a k ≡ slice_get b k
 same_at a b n k same less = sym (get-take a n k less) ∙ ap (λ l. slice_get l k) same ∙ get-take b n k less
 
-same_term : (a b : List Entry) (n i t : ℕ) → take n a ≡ take n b → i ≤ n → HasTerm a i t → HasTerm b i t
+same_term : (a b : List LogEntry) (n i t : ℕ) → take n a ≡ take n b → i ≤ n → HasTerm a i t → HasTerm b i t
 same_term a b n zero t same le has = has
 same_term a b n (suc k) t same le has = (has.0, sym (same_at a b n k same le) ∙ has.1, has.2)
 
-same_front : (a b : List Entry) (n m : ℕ) → take n a ≡ take n b → m ≤ n → take m a ≡ take m b
+same_front : (a b : List LogEntry) (n m : ℕ) → take n a ≡ take n b → m ≤ n → take m a ≡ take m b
 same_front a b n m same le = sym (take-take m n a le) ∙ ap (take m) same ∙ take-take m n b le
 
 -- a front that is a prefix of another log
-prefix_front : (a b : List Entry) (n : ℕ) → n ≤ length a → IsPrefixOf (take n a) b → (take n a ≡ take n b) × (n ≤ length b)
+prefix_front : (a b : List LogEntry) (n : ℕ) → n ≤ length a → IsPrefixOf (take n a) b → (take n a ≡ take n b) × (n ≤ length b)
 prefix_front a b n le (rest, e) =
     let long : length (take n a) ≡ n = omega (arith, length-take n a, le) in (
       sym (take-append_seam (take n a) rest) ∙ ap (λ k. take k (take n a ++ rest)) long ∙ ap (take n) e,
@@ -63,10 +63,10 @@ prefix_front a b n le (rest, e) =
     )
 
 -- Members that stand for logs with equal fronts agree.
-agree : (first : List ℕ) (a b : Member) (la lb : List Entry) → StandsForLog first a la → StandsForLog first b lb → (n : ℕ) → take n la ≡ take n lb → AgreeUpTo n a b
+agree : (first : List ℕ) (a b : Member) (la lb : List LogEntry) → StandsForLog first a la → StandsForLog first b lb → (n : ℕ) → take n la ≡ take n lb → AgreeUpTo n a b
 agree first a b la lb fa fb n same i le = (entries, terms)
   where
-    entries : (e f : Entry) → HasEntry a i e → HasEntry b i f → e ≡ f
+    entries : (e f : LogEntry) → HasEntry a i e → HasEntry b i f → e ≡ f
     entries e f (k, ik, is) (j, ij, at) = same_Some e f (
         sym is ∙ at_log first a la fa k ∙ same_at la lb n (a.base + k) same (omega (arith, ik, le)) ∙ ap (slice_get lb) (omega (arith, ik, ij))
         ∙ sym (at_log first b lb fb j) ∙ at)
@@ -107,7 +107,7 @@ module _ (first : List ℕ) (steps : List Step) (meets : MeetsFacts first steps)
       )
 
 -- A member that stands for a log has committed a front of each list of which this log's committed front is one.
-commits_front : (first : List ℕ) (history : List Entry) (a : Member) (log : List Entry) → StandsForLog first a log → take a.commit log ≡ take a.commit history → a.commit ≤ length history → CommitsFrontOf first history a
+commits_front : (first : List ℕ) (history : List LogEntry) (a : Member) (log : List LogEntry) → StandsForLog first a log → take a.commit log ≡ take a.commit history → a.commit ≤ length history → CommitsFrontOf first history a
 commits_front first history a log fit same within =
     let above = fit.above in
     record {
@@ -119,7 +119,7 @@ commits_front first history a log fit same within =
     }
 
 module _ (first : List ℕ) (steps : List Step) (plain : List whole.Step) (facts : whole.MeetsFacts first plain) (through : StandsThrough first steps plain) where
-  abbrev history : List Entry
+  abbrev history : List LogEntry
   history = (whole_one_history first plain facts).0
 
   -- what a member has committed at a moment of the execution on whole logs
@@ -135,7 +135,7 @@ module _ (first : List ℕ) (steps : List Step) (plain : List whole.Step) (facts
       commits_front first history (v.member m) (x.0.member m).log (x.2 m).log (subst (λ k. take k (x.0.member m).log ≡ take k history) c f.0) (subst (λ k. k ≤ length history) c f.1)
 
   -- A member whose whole log has the history's front holds its last entry.
-  holds : (place : ℕ) → place < length history → (a : Member) (log : List Entry) → StandsForLog first a log → take (suc place) log ≡ take (suc place) history → IsHeldBy history place a
+  holds : (place : ℕ) → place < length history → (a : Member) (log : List LogEntry) → StandsForLog first a log → take (suc place) log ≡ take (suc place) history → IsHeldBy history place a
   holds place within a log fit same = ⊎_elim inl
       (λ (above : a.base ≤ place).
       let e = has_place history place within in
@@ -179,10 +179,10 @@ module _ (first : List ℕ) (steps : List Step) (plain : List whole.Step) (facts
         λ n chosen. holds first steps plain facts through place (omega (arith, low, f.1)) ((cluster_after first steps).member n) ((whole.cluster_after plain).member n).log (stands_now first steps plain through n).log (quorum.2 n chosen ∙ same),
       )
 
-pub committed_prefixes : (first : List ℕ) (steps : List Step) → MeetsFacts first steps → (history : List Entry) × IsHistory first steps history
+pub committed_prefixes : (first : List ℕ) (steps : List Step) → MeetsFacts first steps → (history : List LogEntry) × IsHistory first steps history
 committed_prefixes first steps meets = let (plain, facts, through) = whole_logs first steps meets in (history first steps plain facts through, is_history first steps plain facts through)
 
-pub held_at_end : (first : List ℕ) (steps : List Step) → MeetsFacts first steps → (history : List Entry) × IsHistory first steps history
+pub held_at_end : (first : List ℕ) (steps : List Step) → MeetsFacts first steps → (history : List LogEntry) × IsHistory first steps history
     × ((v : Cluster) → IsMoment first steps v → (m place : ℕ) → place < (v.member m).commit
     → (members : List ℕ) × AreAdjacent (configuration_at first history (suc place)) members
     × HasQuorum members (λ n. IsHeldBy history place ((cluster_after first steps).member n)))
@@ -190,7 +190,7 @@ held_at_end first steps meets =
     let (plain, facts, through) = whole_logs first steps meets in
     (history first steps plain facts through, is_history first steps plain facts through, held first steps plain facts through)
 
-pub held_by_first_members : (first : List ℕ) (steps : List Step) → MeetsFacts first steps → KeepsMembers first steps → (history : List Entry) × IsHistory first steps history
+pub held_by_first_members : (first : List ℕ) (steps : List Step) → MeetsFacts first steps → KeepsMembers first steps → (history : List LogEntry) × IsHistory first steps history
     × ((v : Cluster) → IsMoment first steps v → (m place : ℕ) → place < (v.member m).commit → HasQuorum first (λ n. IsHeldBy history place ((cluster_after first steps).member n)))
 held_by_first_members first steps meets keeps =
     let (plain, facts, through, quiet) = quiet_whole_logs first steps meets keeps in

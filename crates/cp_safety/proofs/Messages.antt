@@ -1,7 +1,7 @@
 -- What the messages of members with snapshots say of whole logs.
 use Rattle.std.proofs.Common.{◌≡◌, ℕ, ◌≤◌, List, length, take, map, refl, ap₂, sym, ◌∙◌, subst, Some, None, Option, Contains}
 use Rattle.std.proofs.lemmas.Option.{same_Some}
-use Rattle.cp_rules.specs.Entries.{Entry}
+use Rattle.cp_parts.specs.declared.log_entry.LogEntry.{LogEntry}
 use Rattle.cp_rules.specs.Configurations.{configuration_after}
 use Rattle.cp_rules.specs.Logs.{HasTerm}
 use Rattle.cp_rules.specs.Clusters.{Append, Appended, Cluster, Done, Member, Message, Other, Snapshot, Vote, Voted}
@@ -20,7 +20,7 @@ SaysTheSame Other = Unit {0}
 
 -- The message that a message stands for, where its sender has the whole log l and this commit: a snapshot is an Append of the whole
 -- front from index 0 on, and a reply to it a reply to that Append.
-abbrev pub to_whole : List Entry → ℕ → Message → Message
+abbrev pub to_whole : List LogEntry → ℕ → Message → Message
 to_whole l commit (Vote c t lt li) = Vote c t lt li
 to_whole l commit (Voted v c t) = Voted v c t
 to_whole l commit (Append f t p pt es c) = Append f t p pt es c
@@ -30,7 +30,7 @@ to_whole l commit (Done v to t j) = Appended v to t j
 to_whole l commit Other = Other
 
 -- Such a message stands for itself.
-pub same_message : (l : List Entry) (commit : ℕ) (m : Message) → SaysTheSame m → to_whole l commit m ≡ m
+pub same_message : (l : List LogEntry) (commit : ℕ) (m : Message) → SaysTheSame m → to_whole l commit m ≡ m
 same_message l commit (Vote c t lt li) same = refl
 same_message l commit (Voted v c t) same = refl
 same_message l commit (Append f t p pt es c) same = refl
@@ -40,12 +40,12 @@ same_message l commit (Done v to t j) same = absurd same
 same_message l commit Other same = refl
 
 -- What stands behind a message that was sent: itself, or a snapshot or the reply to one.
-pub data Stands (l : List Entry) (commit : ℕ) (sends : List Message) (m : Message) : Type 0 where
+pub data Stands (l : List LogEntry) (commit : ℕ) (sends : List Message) (m : Message) : Type 0 where
   AsItIs : Contains sends m → Stands l commit sends m
   ForSnapshot : (f t i it : ℕ) (ms : List ℕ) → Contains sends (Snapshot f t i it ms) → Append f t 0 0 (take i l) commit ≡ m → Stands l commit sends m
   ForDone : (v to t j : ℕ) → Contains sends (Done v to t j) → Appended v to t j ≡ m → Stands l commit sends m
 
-stands_behind : (l : List Entry) (commit : ℕ) (sends : List Message) (m x : Message) → Contains sends x → to_whole l commit x ≡ m → Stands l commit sends m
+stands_behind : (l : List LogEntry) (commit : ℕ) (sends : List Message) (m x : Message) → Contains sends x → to_whole l commit x ≡ m → Stands l commit sends m
 stands_behind l commit sends m (Vote c t lt li) at e = AsItIs (subst (Contains sends) e at)
 stands_behind l commit sends m (Voted v c t) at e = AsItIs (subst (Contains sends) e at)
 stands_behind l commit sends m (Append f t p pt es c) at e = AsItIs (subst (Contains sends) e at)
@@ -55,20 +55,20 @@ stands_behind l commit sends m (Done v to t j) at e = ForDone v to t j at e
 stands_behind l commit sends m Other at e = AsItIs (subst (Contains sends) e at)
 
 -- What stands behind a message of the cluster on whole logs.
-pub what_stands : (l : List Entry) (commit : ℕ) (sends : List Message) (m : Message) → Contains (map (to_whole l commit) sends) m → Stands l commit sends m
+pub what_stands : (l : List LogEntry) (commit : ℕ) (sends : List Message) (m : Message) → Contains (map (to_whole l commit) sends) m → Stands l commit sends m
 what_stands l commit sends m has = let x = contains_unmap (to_whole l commit) sends m has in stands_behind l commit sends m x.0 x.1 x.2
 
 -- the member that one stands for, with this whole log
-abbrev pub standing : Member → List Entry → whole.Member
+abbrev pub standing : Member → List LogEntry → whole.Member
 standing b l = record { term = b.term; vote = b.vote; log = l; commit = b.commit; is_leader = b.is_leader }
 
 -- the cluster that one stands for
-abbrev pub stand : Cluster → (ℕ → List Entry) → List Message → whole.Cluster
+abbrev pub stand : Cluster → (ℕ → List LogEntry) → List Message → whole.Cluster
 stand w logs sent = record { member = λ m. standing (w.member m) (logs m); sent = sent }
 
 -- What was sent as a snapshot stands for an Append of the whole front.
 pub record Carries (first : List ℕ) (sent : List Message) (f t i it : ℕ) (ms : List ℕ) : Type 0 where
-  pub entries : List Entry
+  pub entries : List LogEntry
   pub commit : ℕ
   pub covers : i ≤ commit
   pub long : length entries ≡ i

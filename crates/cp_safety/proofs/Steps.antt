@@ -4,7 +4,7 @@ use mathlib.Core.Path.{fun_ext}
 use Rattle.std.proofs.lemmas.Bool.{cases_lt, cases_eq}
 use Rattle.std.proofs.lemmas.Option.{slice_get_within}
 use Rattle.std.proofs.lemmas.List.Elements.{Contains-append_left, Contains-append_right, Contains-append_cases}
-use Rattle.cp_rules.specs.Entries.{Entry}
+use Rattle.cp_parts.specs.declared.log_entry.LogEntry.{LogEntry}
 use Rattle.cp_rules.specs.Configurations.{AreOneApart, configuration_after}
 use Rattle.cp_rules.specs.Logs.{HasTerm, HasTerms}
 use Rattle.cp_rules.specs.Clusters.{Member, Append, Appended, Cluster, Done, Message, Snapshot, Step, Vote, Voted, after_step, put}
@@ -19,25 +19,25 @@ use Rattle.cp_safety.proofs.Lists.{configuration_after-append, contains_map, dro
 use Rattle.cp_safety.proofs.Fits.{Difference, at_log, ends_has, first_difference, has_knows, keep_front, keep_push, knows_has, members_is, whole_length}
 use Rattle.cp_safety.proofs.Messages.{AsItIs, Carries, ForDone, ForSnapshot, Heard, Received, Stands, same_message, stand, standing, to_whole, what_stands}
 
-module _ (first : List ℕ) (w : Cluster) (logs : ℕ → List Entry) (sent : List Message) (g : Ghost) (s : Step)
+module _ (first : List ℕ) (w : Cluster) (logs : ℕ → List LogEntry) (sent : List Message) (g : Ghost) (s : Step)
     (inv : Invariant first (stand w logs sent) g) (heard : Heard first w sent) (fit : (m : ℕ) → StandsForLog first (w.member m) (logs m)) (r : Received first sent s.got) (facts : Facts w s) where
   -- the acting member and its whole log before the step, and the cluster on whole logs
   abbrev me : Member
   me = w.member s.actor
 
-  abbrev whole_log : List Entry
+  abbrev whole_log : List LogEntry
   whole_log = logs s.actor
 
   abbrev now : whole.Cluster
   now = stand w logs sent
 
   -- the step on whole logs, where it leaves the whole log l
-  abbrev pub whole_step : List Entry → whole.Step
+  abbrev pub whole_step : List LogEntry → whole.Step
   whole_step l = record { actor = s.actor; got = r.got; leads = s.leads; after = standing s.after l; sends = map (to_whole l s.after.commit) s.sends }
 
   -- The whole log that the step leaves, how it came about, and what is known of it up to the base.
   pub record Outcome : Type 0 where
-    pub log : List Entry
+    pub log : List LogEntry
     fits : StandsForLog first s.after log
     pub change : (log ≡ whole_log) ⊎ (whole.EntriesCreated first now (whole_step log) ⊎ whole.FollowsLeader now (whole_step log))
     pub below : ((s.after.base ≤ me.commit) × Share s.after.base log whole_log × ((f t i it : ℕ) (ms : List ℕ) → s.got ≡ Some (Snapshot f t i it ms) → Share me.commit log whole_log))
@@ -61,14 +61,14 @@ module _ (first : List ℕ) (w : Cluster) (logs : ℕ → List Entry) (sent : Li
   came_plain c = record { sender = c.sender; previous = c.previous; previous_term = c.previous_term; entries = c.entries; commit = c.commit; got = r.plain (Append c.sender s.after.term c.previous c.previous_term c.entries c.commit) tt c.got }
 
   -- The Append that came is a piece of the leader's log.
-  piece : (c : GotAppend w s) → (g.leader s.after.term ≢ 0) × HasTerm (g.made s.after.term) c.previous c.previous_term × ((k : ℕ) (e : Entry) → slice_get c.entries k ≡ Some e → slice_get (g.made s.after.term) (c.previous + k) ≡ Some e)
+  piece : (c : GotAppend w s) → (g.leader s.after.term ≢ 0) × HasTerm (g.made s.after.term) c.previous c.previous_term × ((k : ℕ) (e : LogEntry) → slice_get c.entries k ≡ Some e → slice_get (g.made s.after.term) (c.previous + k) ≡ Some e)
   piece c = inv.append c.sender s.after.term c.previous c.previous_term c.entries c.commit (r.delivered (Append c.sender s.after.term c.previous c.previous_term c.entries c.commit) (r.plain (Append c.sender s.after.term c.previous c.previous_term c.entries c.commit) tt c.got))
 
-  no_snapshot : GotAppend w s → (n : ℕ) (l : List Entry) → (f t i it : ℕ) (ms : List ℕ) → s.got ≡ Some (Snapshot f t i it ms) → Share n l whole_log
+  no_snapshot : GotAppend w s → (n : ℕ) (l : List LogEntry) → (f t i it : ℕ) (ms : List ℕ) → s.got ≡ Some (Snapshot f t i it ms) → Share n l whole_log
   no_snapshot c n l f t i it ms e = absurd (let h = c.got in cc)
 
   -- a whole log with the same base
-  same_fit : (l : List Entry) → SameBase s.after me → s.after.log ≡ drop me.base l → Share me.base l whole_log → StandsForLog first s.after l
+  same_fit : (l : List LogEntry) → SameBase s.after me → s.after.log ≡ drop me.base l → Share me.base l whole_log → StandsForLog first s.after l
   same_fit l (eb, et, em) log both =
       let old = fit s.actor in
       let back = share_sym l whole_log me.base both in
@@ -92,7 +92,7 @@ module _ (first : List ℕ) (w : Cluster) (logs : ℕ → List Entry) (sent : Li
         below = inl (subst (λ n. n ≤ me.commit) (sym k.0.0) old.above, subst (λ n. Share n whole_log whole_log) (sym k.0.0) (both me.base old.fits), λ f t i it ms e. both me.commit commit_within);
       }
 
-  changes : (l : List Entry) (after : List ℕ) → ChangesAreSingle w s after → whole.ChangesAreSingle first now (whole_step l) after
+  changes : (l : List LogEntry) (after : List ℕ) → ChangesAreSingle w s after → whole.ChangesAreSingle first now (whole_step l) after
   changes l after c = record {
     one_apart = subst (λ m. AreOneApart m after) (members_is first me whole_log (fit s.actor)) c.one_apart;
     settled = λ k e le is.
@@ -101,7 +101,7 @@ module _ (first : List ℕ) (w : Cluster) (logs : ℕ → List Entry) (sent : Li
     own = own_entry c.own.0 c.own.1 c.own.2 (knows_has first me whole_log (fit s.actor) c.own.0 s.after.term c.own.3);
   }
     where
-      own_entry : (i : ℕ) → 0 < i → i ≤ me.commit → HasTerm whole_log i s.after.term → (k : ℕ) × (e : Entry) × (k < me.commit) × (slice_get whole_log k ≡ Some e) × (e.term ≡ s.after.term)
+      own_entry : (i : ℕ) → 0 < i → i ≤ me.commit → HasTerm whole_log i s.after.term → (k : ℕ) × (e : LogEntry) × (k < me.commit) × (slice_get whole_log k ≡ Some e) × (e.term ≡ s.after.term)
       own_entry zero pos le has = absurd (omega arith)
       own_entry (suc k) pos le has = (k, has.0, le, has.1, has.2)
 
@@ -118,8 +118,8 @@ module _ (first : List ℕ) (w : Cluster) (logs : ℕ → List Entry) (sent : Li
 
   -- A replacement that begins at or after the base.
   follows : (c : GotAppend w s) → SameBase s.after me → HasTerm whole_log c.previous c.previous_term
-      → (d : ℕ) (entry : Entry) → slice_get c.entries d ≡ Some entry → HasTerms whole_log c.previous c.entries d
-      → (length whole_log ≡ c.previous + d) ⊎ ((e : Entry) × (slice_get whole_log (c.previous + d) ≡ Some e) × (e.term ≢ entry.term))
+      → (d : ℕ) (entry : LogEntry) → slice_get c.entries d ≡ Some entry → HasTerms whole_log c.previous c.entries d
+      → (length whole_log ≡ c.previous + d) ⊎ ((e : LogEntry) × (slice_get whole_log (c.previous + d) ≡ Some e) × (e.term ≢ entry.term))
       → me.base ≤ c.previous + d → s.after.log ≡ drop me.base (take (c.previous + d) whole_log ++ drop d c.entries) → Outcome
   follows c base has d entry there same differs above log =
       let old = fit s.actor in
@@ -140,7 +140,7 @@ module _ (first : List ℕ) (w : Cluster) (logs : ℕ → List Entry) (sent : Li
       }
 
   -- what is left of the whole log after the base
-  rest_is : (n m d : ℕ) (es : List Entry) → n ≡ me.base + m → take m me.log ++ drop d es ≡ drop me.base (take n whole_log ++ drop d es)
+  rest_is : (n m d : ℕ) (es : List LogEntry) → n ≡ me.base + m → take m me.log ++ drop d es ≡ drop me.base (take n whole_log ++ drop d es)
   rest_is n m d es e =
       let old = fit s.actor in
       let fits = old.fits in
@@ -276,7 +276,7 @@ module _ (first : List ℕ) (w : Cluster) (logs : ℕ → List Entry) (sent : Li
       (first_difference whole_log c.entries (length c.entries) (le_refl (length c.entries))))
       n.log
     where
-      last_term : (es : List Entry) (i it : ℕ) → HasTerms whole_log 0 es (length es) → length es ≡ i → 0 < i → HasTerm es i it → HasTerm whole_log i it
+      last_term : (es : List LogEntry) (i it : ℕ) → HasTerms whole_log 0 es (length es) → length es ≡ i → 0 < i → HasTerm es i it → HasTerm whole_log i it
       last_term es zero it all long pos has = absurd (omega arith)
       last_term es (suc j) it all long pos has =
           let x = all j has.0 (omega (arith, long)) has.1 in
@@ -318,7 +318,7 @@ module _ (first : List ℕ) (w : Cluster) (logs : ℕ → List Entry) (sent : Li
         (cases_lt (a.came.previous + k) s.after.base);
   }
 
-  abbrev snapshot_acknowledges : (l : List Entry) (f i it : ℕ) (ms : List ℕ) (x : (c : Carries first sent f s.after.term i it ms) × (r.got ≡ Some (Append f s.after.term 0 0 c.entries c.commit))) → Share i l (g.made s.after.term) → whole.Acknowledges now (whole_step l) i
+  abbrev snapshot_acknowledges : (l : List LogEntry) (f i it : ℕ) (ms : List ℕ) (x : (c : Carries first sent f s.after.term i it ms) × (r.got ≡ Some (Append f s.after.term 0 0 c.entries c.commit))) → Share i l (g.made s.after.term) → whole.Acknowledges now (whole_step l) i
   snapshot_acknowledges l f i it ms x both = record {
     came = record { sender = f; previous = 0; previous_term = 0; entries = x.0.entries; commit = x.0.commit; got = x.1 };
     index_is = sym x.0.long ∙ sym (zero-add (length x.0.entries));
@@ -345,7 +345,7 @@ module _ (first : List ℕ) (w : Cluster) (logs : ℕ → List Entry) (sent : Li
       f.done)
 
   -- what was sent, of each kind
-  unmap_vote : (l : List Entry) (c t lt li : ℕ) → Contains (map (to_whole l s.after.commit) s.sends) (Vote c t lt li) → Contains s.sends (Vote c t lt li)
+  unmap_vote : (l : List LogEntry) (c t lt li : ℕ) → Contains (map (to_whole l s.after.commit) s.sends) (Vote c t lt li) → Contains s.sends (Vote c t lt li)
   unmap_vote l c t lt li has = from (what_stands l s.after.commit s.sends (Vote c t lt li) has)
     where
       from : Stands l s.after.commit s.sends (Vote c t lt li) → Contains s.sends (Vote c t lt li)
@@ -353,7 +353,7 @@ module _ (first : List ℕ) (w : Cluster) (logs : ℕ → List Entry) (sent : Li
       from (ForSnapshot f t' i it ms at e) = absurd (cc)
       from (ForDone v to t' j at e) = absurd (cc)
 
-  unmap_voted : (l : List Entry) (v c t : ℕ) → Contains (map (to_whole l s.after.commit) s.sends) (Voted v c t) → Contains s.sends (Voted v c t)
+  unmap_voted : (l : List LogEntry) (v c t : ℕ) → Contains (map (to_whole l s.after.commit) s.sends) (Voted v c t) → Contains s.sends (Voted v c t)
   unmap_voted l v c t has = from (what_stands l s.after.commit s.sends (Voted v c t) has)
     where
       from : Stands l s.after.commit s.sends (Voted v c t) → Contains s.sends (Voted v c t)
@@ -361,7 +361,7 @@ module _ (first : List ℕ) (w : Cluster) (logs : ℕ → List Entry) (sent : Li
       from (ForSnapshot f t' i it ms at e) = absurd (cc)
       from (ForDone v' to t' j at e) = absurd (cc)
 
-  unmap_appended : (l : List Entry) (v to t j : ℕ) → Contains (map (to_whole l s.after.commit) s.sends) (Appended v to t j) → Contains s.sends (Appended v to t j) ⊎ Contains s.sends (Done v to t j)
+  unmap_appended : (l : List LogEntry) (v to t j : ℕ) → Contains (map (to_whole l s.after.commit) s.sends) (Appended v to t j) → Contains s.sends (Appended v to t j) ⊎ Contains s.sends (Done v to t j)
   unmap_appended l v to t j has = from (what_stands l s.after.commit s.sends (Appended v to t j) has)
     where
       from : Stands l s.after.commit s.sends (Appended v to t j) → Contains s.sends (Appended v to t j) ⊎ Contains s.sends (Done v to t j)
@@ -372,7 +372,7 @@ module _ (first : List ℕ) (w : Cluster) (logs : ℕ → List Entry) (sent : Li
           inr (subst (λ n. Contains s.sends (Done v to t n)) e4 (subst (λ n. Contains s.sends (Done v to n j')) e3 (subst (λ n. Contains s.sends (Done v n t' j')) e2 (subst (λ n. Contains s.sends (Done n to' t' j')) e1 at))))
 
   -- What is sent in an Append or a Snapshot, a leader's whole log has.
-  sends_append : (o : Outcome) (f t p pt : ℕ) (es : List Entry) (c : ℕ) → Contains (map (to_whole o.log s.after.commit) s.sends) (Append f t p pt es c) → whole.SendsAppend (whole_step o.log) f t p pt es c
+  sends_append : (o : Outcome) (f t p pt : ℕ) (es : List LogEntry) (c : ℕ) → Contains (map (to_whole o.log s.after.commit) s.sends) (Append f t p pt es c) → whole.SendsAppend (whole_step o.log) f t p pt es c
   sends_append o f t p pt es c has = from (what_stands o.log s.after.commit s.sends (Append f t p pt es c) has)
     where
       from : Stands o.log s.after.commit s.sends (Append f t p pt es c) → whole.SendsAppend (whole_step o.log) f t p pt es c
@@ -403,7 +403,7 @@ module _ (first : List ℕ) (w : Cluster) (logs : ℕ → List Entry) (sent : Li
       from (ForDone v' to' t' j' at e) = absurd (cc)
 
   -- An election is won on whole logs.
-  wins : WinsElection w s → (l : List Entry) → whole.WinsElection first now (whole_step l)
+  wins : WinsElection w s → (l : List LogEntry) → whole.WinsElection first now (whole_step l)
   wins k l =
       let old = fit s.actor in
       let b = me in
@@ -421,7 +421,7 @@ module _ (first : List ℕ) (w : Cluster) (logs : ℕ → List Entry) (sent : Li
         );
       }
     where
-      under : (i : ℕ) (e : Entry) → slice_get whole_log i ≡ Some e → (n t : ℕ) → n ≡ me.base → i < n → HasTerm whole_log n t → t < s.after.term → e.term < s.after.term
+      under : (i : ℕ) (e : LogEntry) → slice_get whole_log i ≡ Some e → (n t : ℕ) → n ≡ me.base → i < n → HasTerm whole_log n t → t < s.after.term → e.term < s.after.term
       under i e is zero t en less has low = absurd (omega arith)
       under i e is (suc j) t en less has low =
           let root = (inv.log s.actor).rooted j has.0 has.1 in
@@ -492,7 +492,7 @@ module _ (first : List ℕ) (w : Cluster) (logs : ℕ → List Entry) (sent : Li
   }
 
   module _ (o : Outcome) where
-    abbrev next_whole : ℕ → List Entry
+    abbrev next_whole : ℕ → List LogEntry
     next_whole = put logs s.actor o.log
 
     abbrev next_sent : List Message

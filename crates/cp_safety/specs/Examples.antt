@@ -1,17 +1,17 @@
 -- Executions in full: one that commits, and two that show what single facts are for.
 use Rattle.std.specs.Prelude.{◌≡◌, ℕ, ◌⊎◌, Bool, List, [], ◌∷◌, true, false, Some, None, Contains}
-use Rattle.cp_rules.specs.Entries.{Entry}
+use Rattle.cp_parts.specs.declared.log_entry.LogEntry.{LogEntry}
 use Rattle.cp_rules.specs.Configurations.{HasQuorum}
 use Rattle.cp_rules.specs.Clusters.{Member, Vote, Voted, Append, Appended, Cluster, Step, cluster_after}
 use Rattle.cp_rules.specs.Facts.{before, configuration_of, OtherFacts, LeadersElected, VotesGiven}
 
 -- a member that has taken no snapshot
-abbrev pub member_of : List ℕ → (term vote : ℕ) → List Entry → ℕ → Bool → Member
+abbrev pub member_of : List ℕ → (term vote : ℕ) → List LogEntry → ℕ → Bool → Member
 member_of first term vote log commit is_leader = record { term = term; vote = vote; base = 0; base_term = 0; base_members = first; log = log; commit = commit; is_leader = is_leader }
 
 -- an entry of term 1 that changes no members
-abbrev pub entry : Entry
-entry = record { term = 1; body = [] }
+abbrev pub entry : LogEntry
+entry = record { term = 1; bytes = [] }
 
 abbrev pub three : List ℕ
 three = 1 ∷ 2 ∷ 3 ∷ []
@@ -78,11 +78,11 @@ abbrev pub alone : List ℕ
 alone = 1 ∷ []
 
 -- The members entries of term 1 that make the configuration 1, 2 and then 1, 2, 3.
-abbrev pub adds_two : Entry
-adds_two = record { term = 1; body = 4 ∷ 0 ∷ 0 ∷ 0 ∷ 0 ∷ 0 ∷ 0 ∷ 0 ∷ 0 ∷ 0 ∷ 0 ∷ 0 ∷ 0 ∷ 2 ∷ 1 ∷ 2 ∷ [] }
+abbrev pub adds_two : LogEntry
+adds_two = record { term = 1; bytes = 4 ∷ 0 ∷ 0 ∷ 0 ∷ 0 ∷ 0 ∷ 0 ∷ 0 ∷ 0 ∷ 0 ∷ 0 ∷ 0 ∷ 0 ∷ 2 ∷ 1 ∷ 2 ∷ [] }
 
-abbrev pub adds_three : Entry
-adds_three = record { term = 1; body = 4 ∷ 0 ∷ 0 ∷ 0 ∷ 0 ∷ 0 ∷ 0 ∷ 0 ∷ 0 ∷ 0 ∷ 0 ∷ 0 ∷ 0 ∷ 3 ∷ 1 ∷ 2 ∷ 3 ∷ [] }
+abbrev pub adds_three : LogEntry
+adds_three = record { term = 1; bytes = 4 ∷ 0 ∷ 0 ∷ 0 ∷ 0 ∷ 0 ∷ 0 ∷ 0 ∷ 0 ∷ 0 ∷ 0 ∷ 0 ∷ 0 ∷ 3 ∷ 1 ∷ 2 ∷ 3 ∷ [] }
 
 -- Member 1 leads term 1 alone, adds 2, commits that with 2, and adds 3. Member 2 follows, and has not voted in term 1. Now it votes
 -- for itself in this same term, asks 3, and counts itself and 3 as a quorum of the three members that its log has.

@@ -1,6 +1,7 @@
 -- The laws of agreement. They speak of any two states v and w that an execution had, in either order, and of any two members in them.
 use Rattle.std.specs.Prelude.{◌≡◌, ◌∷◌, ◌+◌, ◌-◌, ◌<◌, ◌≤◌, ◌⊎◌, true, ℕ, suc, Bool, List, length, take, drop, Some, None, slice_get}
-use Rattle.cp_rules.specs.Entries.{Entry, members_in}
+use Rattle.cp_parts.specs.declared.log_entry.LogEntry.{LogEntry}
+use Rattle.cp_rules.specs.Entries.{members_in}
 use Rattle.cp_rules.specs.Configurations.{configuration_at, HasQuorum, IsQuorum, AreAdjacent}
 use Rattle.cp_rules.specs.Logs.{HasTerm}
 use Rattle.cp_rules.specs.Clusters.{Member, Cluster, Step, IsMoment, cluster_after}
@@ -20,12 +21,12 @@ abbrev pub OneOffice : Type 0
 OneOffice = AtAnyTwoMoments (λ a m b n. a.is_leader ≡ true → b.is_leader ≡ true → a.term ≡ b.term → m ≡ n)
 
 -- the member has this entry at an index above its base
-abbrev pub HasEntry : Member → ℕ → Entry → Type 0
+abbrev pub HasEntry : Member → ℕ → LogEntry → Type 0
 HasEntry m i e = (k : ℕ) × (i ≡ suc (m.base + k)) × (slice_get m.log k ≡ Some e)
 
 -- Two members agree up to an index: at each index up to it they have one entry, where both have one, and know one term, where both know one.
 abbrev pub AgreeUpTo : ℕ → Member → Member → Type 0
-AgreeUpTo index a b = (i : ℕ) → i ≤ index → ((e f : Entry) → HasEntry a i e → HasEntry b i f → e ≡ f) × ((t u : ℕ) → KnowsTerm a i t → KnowsTerm b i u → t ≡ u)
+AgreeUpTo index a b = (i : ℕ) → i ≤ index → ((e f : LogEntry) → HasEntry a i e → HasEntry b i f → e ≡ f) × ((t u : ℕ) → KnowsTerm a i t → KnowsTerm b i u → t ≡ u)
 
 -- Two members that know the same term at an index agree up to it.
 abbrev pub EqualPrefixes : Type 0
@@ -36,7 +37,7 @@ abbrev pub LaterOffices : Type 0
 LaterOffices = AtAnyTwoMoments (λ a m b n. b.is_leader ≡ true → a.term < b.term → AgreeUpTo a.commit a b × (a.commit ≤ b.base + length b.log))
 
 -- What the member has committed is a front of the history: above the base by its entries, below by what stands with the base.
-pub record CommitsFrontOf (first : List ℕ) (history : List Entry) (m : Member) : Type 0 where
+pub record CommitsFrontOf (first : List ℕ) (history : List LogEntry) (m : Member) : Type 0 where
   pub within : m.commit ≤ length history
   pub base : m.base ≤ m.commit
   pub entries : take (m.commit - m.base) m.log ≡ drop m.base (take m.commit history)
@@ -44,31 +45,31 @@ pub record CommitsFrontOf (first : List ℕ) (history : List Entry) (m : Member)
   pub members : m.base_members ≡ configuration_at first history m.base
 
 -- The history of an execution: at each moment each member has committed a front of it.
-abbrev pub IsHistory : List ℕ → List Step → List Entry → Type 0
+abbrev pub IsHistory : List ℕ → List Step → List LogEntry → Type 0
 IsHistory first steps history = (v : Cluster) → IsMoment first steps v → (m : ℕ) → CommitsFrontOf first history (v.member m)
 
 -- Committed lists are prefixes of one list.
 abbrev pub CommittedPrefixes : Type 0
-CommittedPrefixes = (first : List ℕ) (steps : List Step) → MeetsFacts first steps → (history : List Entry) × IsHistory first steps history
+CommittedPrefixes = (first : List ℕ) (steps : List Step) → MeetsFacts first steps → (history : List LogEntry) × IsHistory first steps history
 
 -- The member holds an entry of the history, counted from 0: it has that entry, or its snapshot covers it.
-abbrev pub IsHeldBy : List Entry → ℕ → Member → Type 0
-IsHeldBy history place m = (place < m.base) ⊎ ((e : Entry) × (slice_get history place ≡ Some e) × HasEntry m (suc place) e)
+abbrev pub IsHeldBy : List LogEntry → ℕ → Member → Type 0
+IsHeldBy history place m = (place < m.base) ⊎ ((e : LogEntry) × (slice_get history place ≡ Some e) × HasEntry m (suc place) e)
 
 -- Each committed entry of the history is held at the end by a quorum of the configuration in force for it, or of an adjacent one.
 abbrev pub HeldAtEnd : Type 0
-HeldAtEnd = (first : List ℕ) (steps : List Step) → MeetsFacts first steps → (history : List Entry) × IsHistory first steps history
+HeldAtEnd = (first : List ℕ) (steps : List Step) → MeetsFacts first steps → (history : List LogEntry) × IsHistory first steps history
     × ((v : Cluster) → IsMoment first steps v → (m place : ℕ) → place < (v.member m).commit
     → (members : List ℕ) × AreAdjacent (configuration_at first history (suc place)) members
     × HasQuorum members (λ n. IsHeldBy history place ((cluster_after first steps).member n)))
 
 -- No members entry stands in any log.
 abbrev pub KeepsMembers : List ℕ → List Step → Type 0
-KeepsMembers first steps = (v : Cluster) → IsMoment first steps v → (m k : ℕ) (e : Entry) → slice_get (v.member m).log k ≡ Some e → members_in e.body ≡ None
+KeepsMembers first steps = (v : Cluster) → IsMoment first steps v → (m k : ℕ) (e : LogEntry) → slice_get (v.member m).log k ≡ Some e → members_in e.bytes ≡ None
 
 -- While members are fixed, each committed entry of the history is held at the end by a quorum of the first members.
 abbrev pub HeldByFirstMembers : Type 0
-HeldByFirstMembers = (first : List ℕ) (steps : List Step) → MeetsFacts first steps → KeepsMembers first steps → (history : List Entry) × IsHistory first steps history
+HeldByFirstMembers = (first : List ℕ) (steps : List Step) → MeetsFacts first steps → KeepsMembers first steps → (history : List LogEntry) × IsHistory first steps history
     × ((v : Cluster) → IsMoment first steps v → (m place : ℕ) → place < (v.member m).commit → HasQuorum first (λ n. IsHeldBy history place ((cluster_after first steps).member n)))
 
 -- An execution of members with snapshots stands at each moment for one on whole logs that meets the facts.

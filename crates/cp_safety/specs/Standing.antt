@@ -1,6 +1,6 @@
 -- What a member with a snapshot stands for: a member that kept its whole log.
 use Rattle.std.specs.Prelude.{◌≡◌, ℕ, ◌≤◌, List, [], ◌∷◌, length, drop}
-use Rattle.cp_rules.specs.Entries.{Entry}
+use Rattle.cp_parts.specs.declared.log_entry.LogEntry.{LogEntry}
 use Rattle.cp_rules.specs.Configurations.{configuration_at}
 use Rattle.cp_rules.specs.Logs.{HasTerm}
 use Rattle.cp_rules.specs.Clusters.{Member, Step, cluster_after}
@@ -8,7 +8,7 @@ use Rattle.cp_agreement.specs.WholeLogs as whole
 
 -- The whole log that a member stands for: what the member keeps of it is what follows the base, with the base stand the term and the
 -- configuration that this log has there, and what the base covers is committed.
-pub record StandsForLog (first : List ℕ) (m : Member) (whole_log : List Entry) : Type 0 where
+pub record StandsForLog (first : List ℕ) (m : Member) (whole_log : List LogEntry) : Type 0 where
   pub fits : m.base ≤ length whole_log
   pub log : m.log ≡ drop m.base whole_log
   pub base_term : HasTerm whole_log m.base m.base_term

@@ -1,7 +1,7 @@
 -- Members with all that they keep in memory for agreement: role, counted votes, matched indexes. The facts here relate one member's
 -- state before and after a step, as rules for one member do: none speaks of what was ever sent, but that what comes was sent.
 use Rattle.std.specs.Prelude.{All, ◌≡◌, ◌≢◌, ℕ, ◌<◌, ◌≤◌, ◌⊎◌, Bool, true, false, List, [], ◌∷◌, ◌++◌, Option, Some, Contains, if◌then◌else◌}
-use Rattle.cp_rules.specs.Entries.{Entry}
+use Rattle.cp_parts.specs.declared.log_entry.LogEntry.{LogEntry}
 use Rattle.cp_rules.specs.Configurations.{HasQuorum}
 use Rattle.cp_rules.specs.Clusters.{Member, Message, Vote, Voted, Append, Appended, Snapshot, Done, Other, Cluster, Step, put}
 use Rattle.cp_rules.specs.Facts.{KnowsTerm, configuration_of, KeepsLog, EntriesCreated, FollowsAbove, FollowsBelow, TakesSnapshot, InstallsSnapshot, GivesVote, SendsAppend, SendsSnapshot, SendsVote, Acknowledges, Finishes, FollowerCommits}
@@ -27,7 +27,7 @@ pub record TrackedMember : Type 0 where
   pub base : ℕ
   pub base_term : ℕ
   pub base_members : List ℕ
-  pub log : List Entry
+  pub log : List LogEntry
   -- volatile
   pub commit : ℕ
   pub role : Role

@@ -2,7 +2,8 @@
 use Rattle.std.proofs.Common.{◌≡◌, ◌≤◌, ℕ, true, false, List, ◌++◌, length, refl, Some, None, arith, nat_lt, length-append}
 use Rattle.std.proofs.lemmas.Bool.{le-ltb}
 use Rattle.cp_step.specs.Limits.{most_snapshot}
-use Rattle.cp_step.specs.Spelling.{SnapshotHead, head_of}
+use Rattle.cp_parts.specs.declared.snapshot_head.SnapshotHead.{SnapshotHead}
+use Rattle.cp_parts.specs.Heads.{head_of}
 use Rattle.cp_step.specs.Persistent.{SnapshotPart}
 use Rattle.cp_step.specs.Volatile.{started}
 use Rattle.cp_step.specs.Local.{Snapshot, SnapshotReply, does, reply}

@@ -3,8 +3,9 @@ use Rattle.std.proofs.Common.{◌==◌, ◌&&◌, ◌≡◌, ◌↔◌, ℕ, ⊎
 use Rattle.std.proofs.lemmas.Bool.{cases_Bool}
 use Rattle.std.proofs.lemmas.Option.{same_Some}
 use Rattle.cp_step.specs.declared.ballot.Ballot.{Ballot}
-use Rattle.cp_step.specs.Spelling.{head_of}
-use Rattle.cp_step.specs.Persistent.{PersistentState, Part, StatePart, SnapshotPart, ballot, ballot_part}
+use Rattle.cp_parts.specs.Heads.{head_of}
+use Rattle.cp_store_state.specs.Persistent.{PersistentState}
+use Rattle.cp_step.specs.Persistent.{Part, StatePart, SnapshotPart, ballot, ballot_part}
 use Rattle.cp_step.specs.Volatile.{VolatileState}
 use Rattle.cp_step.specs.Local.{SnapshotReply, LocalStep, does, reply}
 use Rattle.cp_step.specs.Terms.{adopted}

@@ -1,7 +1,8 @@
 -- The reply to an Append, at a leader.
 use Rattle.std.specs.Prelude.{ℕ, suc, ◌==◌, min, max, Bool, not, ◌&&◌, if◌then◌else◌, [], ◌∷◌, None, nat_lt, nat_le}
 use Rattle.cp_step.specs.declared.peer.Peer.{Peer}
-use Rattle.cp_step.specs.Persistent.{PersistentState, last_index, members, is_member}
+use Rattle.cp_store_state.specs.Persistent.{PersistentState, last}
+use Rattle.cp_step.specs.Persistent.{members, is_member}
 use Rattle.cp_step.specs.Volatile.{VolatileState, peer, with_peer}
 use Rattle.cp_step.specs.Local.{LocalStep, does, leads_and, is_leader}
 use Rattle.cp_step.specs.Terms.{adopts}
@@ -18,9 +19,9 @@ matched_to x index = record x { matched = index; next = suc index }
 -- where the member lacks entries, they are sent, but not by one that has stepped down
 abbrev pub matches : ℕ → PersistentState → VolatileState → ℕ → ℕ → LocalStep
 matches me p v from index =
-    if nat_lt (peer v.peers from).matched index && nat_le index (last_index p)
+    if nat_lt (peer v.peers from).matched index && nat_le index (last p)
     then (let state = commits me p (with_peer from (matched_to (peer v.peers from) index) v) in
-    leads_and (does None state (if is_leader state.role && nat_lt index (last_index p) then append_to p state from ∷ [] else [])))
+    leads_and (does None state (if is_leader state.role && nat_lt index (last p) then append_to p state from ∷ [] else [])))
     else does None v []
 
 -- the next index to try, where a member lacks the one before it

@@ -5,7 +5,8 @@ use Rattle.cp_answers.specs.declared.refusal.Refusal.{Refusal}
 use Rattle.cp_answers.specs.declared.refusal.Refusal.TheVariants.{WrongMembers, ChangePending, NoOwnTermCommit, AlreadyThere, NotThere, LastMember}
 use Rattle.cp_step.specs.declared.change.Change.{Change}
 use Rattle.cp_step.specs.Spelling.{members_entry}
-use Rattle.cp_step.specs.Persistent.{PersistentState, last_index, known_term, configuration, members, is_member}
+use Rattle.cp_store_state.specs.Persistent.{PersistentState, last}
+use Rattle.cp_step.specs.Persistent.{known_term, configuration, members, is_member}
 use Rattle.cp_step.specs.Volatile.{VolatileState, new_peer, with_peer}
 use Rattle.cp_step.specs.Local.{LocalStep}
 use Rattle.cp_step.specs.Requests.{refuses_entry, unless_refused, proposes}
@@ -38,7 +39,7 @@ changed change members = if change.add then with_member change.member.0 members 
 
 -- an added member begins with the entry that adds it
 abbrev pub with_added : PersistentState → VolatileState → Change → VolatileState
-with_added p v change = if change.add then with_peer change.member.0 (new_peer (suc (last_index p))) v else v
+with_added p v change = if change.add then with_peer change.member.0 (new_peer (suc (last p))) v else v
 
 abbrev pub changes : ℕ → PersistentState → VolatileState → Change → ℕ → Option Invocation → LocalStep
 changes me p v change plan call = proposes me p (with_added p v change) (members_entry call plan (changed change (members p)))

@@ -1,7 +1,9 @@
 -- How far a leader commits: to the last entry of its own term that a quorum of the configuration holds.
 use Rattle.std.specs.Prelude.{ℕ, zero, suc, ◌+◌, ◌-◌, ◌==◌, Bool, ◌&&◌, ◌||◌, if◌then◌else◌, List, Option, nat_le}
 use Rattle.cp_step.specs.declared.peer.Peer.{Peer}
-use Rattle.cp_step.specs.Persistent.{PersistentState, last_index, term_at, is_term, configuration_at, members, is_member, is_quorum}
+use Rattle.cp_store_state.specs.Persistent.{PersistentState, last, term_at}
+use Rattle.cp_store_state.specs.Configurations.{config_at}
+use Rattle.cp_step.specs.Persistent.{is_term, members, is_member, is_quorum}
 use Rattle.cp_step.specs.Volatile.{VolatileState, peer}
 use Rattle.cp_step.specs.Terms.{steps_down}
 
@@ -19,13 +21,13 @@ abbrev pub may_commit : ℕ → (ℕ → Option ℕ) → ℕ → List ℕ → Li
 may_commit me terms term members peers index = is_term term (terms index) && is_quorum members (holds me peers index)
 
 abbrev pub commit_found : ℕ → PersistentState → VolatileState → ℕ
-commit_found me p v = greatest (may_commit me (term_at p) p.term (members p) v.peers) v.commit (last_index p - v.commit)
+commit_found me p v = greatest (may_commit me (term_at p) p.term (members p) v.peers) v.commit (last p - v.commit)
 
 -- where the commit rises, a leader that the committed configuration leaves out steps down
 abbrev pub commits_to : ℕ → PersistentState → VolatileState → ℕ → VolatileState
 commits_to me p v index =
     if index == v.commit then v
-    else if is_member me (configuration_at p index).members then record v { commit = index }
+    else if is_member me (config_at p index).members then record v { commit = index }
     else steps_down (record v { commit = index })
 
 abbrev pub commits : ℕ → PersistentState → VolatileState → VolatileState

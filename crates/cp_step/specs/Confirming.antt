@@ -4,7 +4,8 @@ use Rattle.cp_base.specs.declared.identifier.Invocation.{Invocation}
 use Rattle.cp_answers.specs.declared.refusal.Refusal.TheVariants.{NotLeader, Overloaded}
 use Rattle.cp_step.specs.declared.outcome.Outcome.TheVariants.{Refused}
 use Rattle.cp_step.specs.Limits.{most_looks}
-use Rattle.cp_step.specs.Persistent.{PersistentState, ballot, last_index, members, others, is_quorum, ballot_part, after_part}
+use Rattle.cp_store_state.specs.Persistent.{PersistentState, last}
+use Rattle.cp_step.specs.Persistent.{ballot, members, others, is_quorum, ballot_part, after_part}
 use Rattle.cp_step.specs.Volatile.{Look, Reads, VolatileState, no_reads}
 use Rattle.cp_step.specs.Local.{LocalStep, does, reply, send, Sent, Confirm, Confirmed, is_leader}
 use Rattle.cp_step.specs.Terms.{adopted, steps_down_for, adopts}
@@ -37,7 +38,7 @@ on_confirmed p v from term taken round =
 abbrev pub waits : PersistentState → Reads → Invocation → ℕ → List ℕ → Reads
 waits p reads call attempt op = record reads {
   round = suc reads.round;
-  looks = reads.looks ++ record { call = call; attempt = attempt; index = last_index p; round = suc reads.round; op = op } ∷ [];
+  looks = reads.looks ++ record { call = call; attempt = attempt; index = last p; round = suc reads.round; op = op } ∷ [];
 }
 
 abbrev pub begins_round : ℕ → PersistentState → VolatileState → Reads → LocalStep

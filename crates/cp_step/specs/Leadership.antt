@@ -3,14 +3,15 @@ use Rattle.std.specs.Prelude.{ℕ, suc, List, [], ◌∷◌, Some}
 use Rattle.cp_step.specs.declared.ballot.Ballot.{Ballot}
 use Rattle.cp_step.specs.declared.role.Role.TheVariants.{Leader}
 use Rattle.cp_step.specs.Spelling.{empty_entry}
-use Rattle.cp_step.specs.Persistent.{PersistentState, Part, AppendPart, with_part, last_index}
+use Rattle.cp_store_state.specs.Persistent.{PersistentState, last}
+use Rattle.cp_step.specs.Persistent.{Part, AppendPart, with_part}
 use Rattle.cp_step.specs.Volatile.{VolatileState, everywhere, new_peer, no_reads}
 use Rattle.cp_step.specs.Local.{LocalStep, does, leads_and}
 use Rattle.cp_step.specs.Sending.{appends}
 use Rattle.cp_step.specs.Commit.{commits}
 
 abbrev pub created_part : PersistentState → Ballot → List ℕ → Part
-created_part p b entry = AppendPart b (last_index p) (record { term = b.term; body = entry } ∷ [])
+created_part p b entry = AppendPart b (last p) (record { term = b.term; bytes = entry } ∷ [])
 
 -- A leader with this ballot puts an entry at the end of its log, commits what it then can, and sends to all others.
 abbrev pub creates : ℕ → PersistentState → VolatileState → Ballot → List ℕ → LocalStep
@@ -21,7 +22,7 @@ creates me p v b entry =
 
 -- Nothing is known of the others but that they may lack what is created next, and no read waits.
 abbrev pub leading : ℕ → PersistentState → VolatileState → VolatileState
-leading me p v = record v { role = Leader; leader = me; beat = v.clock; peers = everywhere (new_peer (suc (last_index p))); reads = no_reads }
+leading me p v = record v { role = Leader; leader = me; beat = v.clock; peers = everywhere (new_peer (suc (last p))); reads = no_reads }
 
 -- A leader begins with an empty entry of its term.
 abbrev pub takes_leadership : ℕ → PersistentState → VolatileState → ℕ → LocalStep

@@ -1,6 +1,7 @@
 pub mod Limits
 pub mod Spelling
 pub mod Persistent
+pub mod Parts
 pub mod Volatile
 pub mod Local
 pub mod Terms

@@ -1,7 +1,7 @@
 -- What comes to a member of one group, what it sends, and what one step of it does.
 use Rattle.std.specs.Prelude.{ℕ, Bool, true, false, List, [], ◌∷◌, Option}
 use Rattle.cp_base.specs.declared.identifier.Invocation.{Invocation}
-use Rattle.cp_rules.specs.Entries.{Entry}
+use Rattle.cp_parts.specs.declared.log_entry.LogEntry.{LogEntry}
 use Rattle.cp_step.specs.declared.change.Change.{Change}
 use Rattle.cp_step.specs.declared.log_end.LogEnd.{LogEnd}
 use Rattle.cp_step.specs.declared.outcome.Outcome.{Outcome}
@@ -17,7 +17,7 @@ pub data Body : Type 0 where
   PreVoteReply : (term : ℕ) (granted : Bool) → Body
   Vote : (term : ℕ) (candidate : LogEnd) → Body
   VoteReply : (term : ℕ) (granted : Bool) → Body
-  Append : (term previous previous_term commit : ℕ) (entries : List Entry) → Body
+  Append : (term previous previous_term commit : ℕ) (entries : List LogEntry) → Body
   AppendReply : (term : ℕ) (taken : Bool) (index : ℕ) → Body
   Snapshot : (term index offset : ℕ) (is_last : Bool) (bytes : List ℕ) → Body
   SnapshotReply : (term index : ℕ) (done : Bool) (received : ℕ) → Body

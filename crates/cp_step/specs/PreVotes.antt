@@ -4,7 +4,8 @@ use Rattle.cp_step.specs.declared.log_end.LogEnd.{LogEnd}
 use Rattle.cp_step.specs.declared.role.Role.{Role}
 use Rattle.cp_step.specs.declared.role.Role.TheVariants.{PreCandidate, Candidate}
 use Rattle.cp_step.specs.Limits.{most_index, least_timeout, timeout_step}
-use Rattle.cp_step.specs.Persistent.{PersistentState, last_index, log_end, members, is_member, others, is_quorum, StatePart}
+use Rattle.cp_store_state.specs.Persistent.{PersistentState, last}
+use Rattle.cp_step.specs.Persistent.{log_end, members, is_member, others, is_quorum, StatePart}
 use Rattle.cp_step.specs.Volatile.{VolatileState, no_votes, has_voted, silence}
 use Rattle.cp_step.specs.Local.{LocalStep, does, reply, send, PreVote, PreVoteReply, Vote, is_leader, is_pre_candidate}
 use Rattle.cp_step.specs.Terms.{adopts}
@@ -26,7 +27,7 @@ stands me p v = does None (record v { role = PreCandidate; leader = 0; heard = v
 -- One that is alone takes leadership of the next term at once, where it may write.
 abbrev pub times_out : ℕ → PersistentState → VolatileState → Bool → LocalStep
 times_out me p v may_write =
-    if not (may_stand me (members p) p.term (last_index p) (silence v)) then does None v []
+    if not (may_stand me (members p) p.term (last p) (silence v)) then does None v []
     else if length (members p) == 1
     then (if may_write then takes_leadership me p (record v { heard = v.clock }) (suc p.term) else does None v [])
     else stands me p v

@@ -5,7 +5,8 @@ use Rattle.cp_answers.specs.declared.refusal.Refusal.TheVariants.{NotLeader, Ind
 use Rattle.cp_step.specs.declared.outcome.Outcome.TheVariants.{Proposed, Refused}
 use Rattle.cp_step.specs.declared.role.Role.{Role}
 use Rattle.cp_step.specs.Limits.{most_index, most_uncommitted}
-use Rattle.cp_step.specs.Persistent.{PersistentState, ballot, last_index}
+use Rattle.cp_store_state.specs.Persistent.{PersistentState, last}
+use Rattle.cp_step.specs.Persistent.{ballot}
 use Rattle.cp_step.specs.Volatile.{VolatileState}
 use Rattle.cp_step.specs.Local.{LocalStep, does, is_leader}
 use Rattle.cp_step.specs.Leadership.{creates}
@@ -19,7 +20,7 @@ refuses role leader last commit =
     else None
 
 abbrev pub refuses_entry : PersistentState → VolatileState → Option Refusal
-refuses_entry p v = refuses v.role v.leader (last_index p) v.commit
+refuses_entry p v = refuses v.role v.leader (last p) v.commit
 
 -- what is refused does nothing else
 abbrev pub unless_refused : Option Refusal → VolatileState → LocalStep → LocalStep
@@ -27,7 +28,7 @@ unless_refused None v s = s
 unless_refused (Some refusal) v s = record (does None v []) { outcome = Refused refusal }
 
 abbrev pub proposes : ℕ → PersistentState → VolatileState → List ℕ → LocalStep
-proposes me p v entry = record (creates me p v (ballot p) entry) { outcome = Proposed (suc (last_index p)) }
+proposes me p v entry = record (creates me p v (ballot p) entry) { outcome = Proposed (suc (last p)) }
 
 abbrev pub on_propose : ℕ → PersistentState → VolatileState → List ℕ → LocalStep
 on_propose me p v entry = unless_refused (refuses_entry p v) v (proposes me p v entry)

@@ -1,20 +1,21 @@
 -- What a leader sends to another member: the entries that it lacks, or a chunk of the snapshot where the base covers them.
 use Rattle.std.specs.Prelude.{ℕ, ◌-◌, Bool, ◌&&◌, if◌then◌else◌, List, [], ◌∷◌, length, take, drop, map, nat_lt, nat_le}
-use Rattle.cp_rules.specs.Entries.{Entry}
+use Rattle.cp_parts.specs.declared.log_entry.LogEntry.{LogEntry}
 use Rattle.cp_step.specs.Limits.{batch_entries, batch_bytes, chunk_bytes}
-use Rattle.cp_step.specs.Persistent.{PersistentState, known_term, members, others}
+use Rattle.cp_store_state.specs.Persistent.{PersistentState}
+use Rattle.cp_step.specs.Persistent.{known_term, members, others}
 use Rattle.cp_step.specs.Volatile.{VolatileState, peer}
 use Rattle.cp_step.specs.Local.{Body, Append, Snapshot, Sent, send, is_leader}
 
 -- as many of these entries as there is room for
-abbrev pub within : List Entry → ℕ → ℕ → List Entry
+abbrev pub within : List LogEntry → ℕ → ℕ → List LogEntry
 within [] count bytes = []
-within (e ∷ entries) count bytes = if nat_lt 0 count && nat_le (length e.body) bytes then e ∷ within entries (count - 1) (bytes - length e.body) else []
+within (e ∷ entries) count bytes = if nat_lt 0 count && nat_le (length e.bytes) bytes then e ∷ within entries (count - 1) (bytes - length e.bytes) else []
 
 -- the first entry, and as many after it as there is room for
-abbrev pub batch : List Entry → List Entry
+abbrev pub batch : List LogEntry → List LogEntry
 batch [] = []
-batch (e ∷ entries) = e ∷ within entries (batch_entries - 1) (batch_bytes - length e.body)
+batch (e ∷ entries) = e ∷ within entries (batch_entries - 1) (batch_bytes - length e.bytes)
 
 -- the piece of a snapshot from this byte on, and whether it reaches the end
 abbrev pub chunk : List ℕ → ℕ → List ℕ

@@ -2,8 +2,12 @@
 use Rattle.std.specs.Prelude.{◌≡◌, ◌↔◌, ℕ, zero, suc, ◌==◌, Bool, true, false, not, ◌&&◌, if◌then◌else◌, List, [], ◌++◌, length, map, Option, Some, None, is_none, nat_lt, nat_le}
 use Rattle.cp_step.specs.declared.peer.Peer.{Peer}
 use Rattle.cp_step.specs.Limits.{most_snapshot}
-use Rattle.cp_step.specs.Spelling.{SnapshotHead, head_of, snapshot_bytes}
-use Rattle.cp_step.specs.Persistent.{PersistentState, ballot, known_term, configuration_at, ballot_part, SnapshotPart}
+use Rattle.cp_parts.specs.declared.snapshot_head.SnapshotHead.{SnapshotHead}
+use Rattle.cp_parts.specs.Heads.{head_of}
+use Rattle.cp_step.specs.Spelling.{snapshot_bytes}
+use Rattle.cp_store_state.specs.Persistent.{PersistentState}
+use Rattle.cp_store_state.specs.Configurations.{config_at}
+use Rattle.cp_step.specs.Persistent.{ballot, known_term, ballot_part, SnapshotPart}
 use Rattle.cp_step.specs.Volatile.{Received, VolatileState, peer, with_peer}
 use Rattle.cp_step.specs.Local.{LocalStep, does, reply, SnapshotReply}
 use Rattle.cp_step.specs.Terms.{adopted, adopts}
@@ -108,7 +112,7 @@ on_snapshot_reply me p v from term index done received =
 -- ---- the member's own snapshot
 
 abbrev pub own_head : PersistentState → ℕ → SnapshotHead
-own_head p index = record { term = known_term p index; configuration = configuration_at p index }
+own_head p index = record { term = known_term p index; config = config_at p index }
 
 abbrev pub from_start : Peer → Peer
 from_start x = record x { offset = 0 }

@@ -1,7 +1,7 @@
 -- The legal local step of member `me` in one group. `p` is what the member has stored and `v` what it keeps in memory, both before the
 -- step; so it is in each rule.
 use Rattle.std.specs.Prelude.{ℕ}
-use Rattle.cp_step.specs.Persistent.{PersistentState}
+use Rattle.cp_store_state.specs.Persistent.{PersistentState}
 use Rattle.cp_step.specs.Volatile.{VolatileState}
 use Rattle.cp_step.specs.Local.{Body, PreVote, PreVoteReply, Vote, VoteReply, Append, AppendReply, Snapshot, SnapshotReply, Confirm, Confirmed, Event, Tick, Got, Propose, ChangeMembers, Read, LocalStep}
 use Rattle.cp_step.specs.PreVotes.{on_prevote, on_prevote_reply}

@@ -2,7 +2,8 @@
 use Rattle.std.specs.Prelude.{ℕ, [], Some, if◌then◌else◌, nat_lt}
 use Rattle.cp_step.specs.declared.ballot.Ballot.{Ballot}
 use Rattle.cp_step.specs.declared.role.Role.TheVariants.{Follower}
-use Rattle.cp_step.specs.Persistent.{PersistentState, StatePart}
+use Rattle.cp_store_state.specs.Persistent.{PersistentState}
+use Rattle.cp_step.specs.Persistent.{StatePart}
 use Rattle.cp_step.specs.Volatile.{VolatileState}
 use Rattle.cp_step.specs.Local.{LocalStep, does}
 

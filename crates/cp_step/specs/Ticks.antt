@@ -3,7 +3,8 @@ use Rattle.std.specs.Prelude.{ℕ, ◌-◌, ◌==◌, Bool, true, false, ◌&&�
 use Rattle.cp_step.specs.declared.outcome.Outcome.{Outcome}
 use Rattle.cp_step.specs.declared.outcome.Outcome.TheVariants.{Done, Proposed, Refused}
 use Rattle.cp_step.specs.Limits.{beat_period}
-use Rattle.cp_step.specs.Persistent.{PersistentState, after_part}
+use Rattle.cp_store_state.specs.Persistent.{PersistentState}
+use Rattle.cp_step.specs.Persistent.{after_part}
 use Rattle.cp_step.specs.Volatile.{VolatileState, Reads}
 use Rattle.cp_step.specs.Local.{LocalStep, does, Sent, is_leader}
 use Rattle.cp_step.specs.Sending.{appends}

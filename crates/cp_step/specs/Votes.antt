@@ -2,7 +2,8 @@
 use Rattle.std.specs.Prelude.{ℕ, ◌==◌, Bool, true, false, ◌&&◌, ◌||◌, if◌then◌else◌, [], None, nat_lt}
 use Rattle.cp_step.specs.declared.ballot.Ballot.{Ballot}
 use Rattle.cp_step.specs.declared.log_end.LogEnd.{LogEnd}
-use Rattle.cp_step.specs.Persistent.{PersistentState, ballot, log_end, members, is_member, ballot_part}
+use Rattle.cp_store_state.specs.Persistent.{PersistentState}
+use Rattle.cp_step.specs.Persistent.{ballot, log_end, members, is_member, ballot_part}
 use Rattle.cp_step.specs.Volatile.{VolatileState}
 use Rattle.cp_step.specs.Local.{LocalStep, does, reply, VoteReply, is_candidate}
 use Rattle.cp_step.specs.Terms.{adopted, steps_down_for, adopts}

@@ -2,13 +2,18 @@
 use Rattle.std.specs.Prelude.{◌≡◌, ◌≤◌, ℕ, ◌-◌, true, false, List, [], ◌∷◌, ◌++◌, length, map, Option, Some, None, slice_get}
 use Rattle.cp_base.specs.declared.identifier.Invocation.{Invocation}
 use Rattle.cp_answers.specs.declared.refusal.Refusal.{Refusal}
-use Rattle.cp_rules.specs.Entries.{Entry}
+use Rattle.cp_parts.specs.declared.log_entry.LogEntry.{LogEntry}
 use Rattle.cp_rules.specs.Clusters.{put}
 use Rattle.cp_step.specs.declared.change.Change.{Change}
 use Rattle.cp_step.specs.declared.log_end.LogEnd.{LogEnd}
 use Rattle.cp_step.specs.declared.outcome.Outcome.{Outcome}
-use Rattle.cp_step.specs.Spelling.{Configuration, SnapshotHead, head_of, snapshot_bytes, empty_entry, members_entry}
-use Rattle.cp_step.specs.Persistent.{PersistentState, after_part, SnapshotPart}
+use Rattle.cp_parts.specs.declared.config.Config.{Config}
+use Rattle.cp_parts.specs.declared.snapshot_head.SnapshotHead.{SnapshotHead}
+use Rattle.cp_parts.specs.Heads.{head_of}
+use Rattle.cp_step.specs.Spelling.{snapshot_bytes, empty_entry, members_entry}
+use Rattle.cp_store_state.specs.Persistent as persistent
+use Rattle.cp_store_state.specs.Persistent.{PersistentState}
+use Rattle.cp_step.specs.Persistent.{after_part, SnapshotPart}
 use Rattle.cp_step.specs.Volatile.{Look, VolatileState, started}
 use Rattle.cp_step.specs.Local.{Body, PreVote, PreVoteReply, Vote, VoteReply, Append, AppendReply, Snapshot, SnapshotReply, Confirm, Confirmed, Event, Tick, Got, Propose, ChangeMembers, Read, LocalStep, does, reply}
 use Rattle.cp_step.specs.Changes.{may_change}
@@ -67,12 +72,12 @@ abbrev pub group_after : Group → List Act → Group
 group_after g [] = g
 group_after g (act ∷ acts) = group_after (with_act g act) acts
 
-abbrev pub configured : ℕ → List ℕ → Configuration
+abbrev pub configured : ℕ → List ℕ → Config
 configured index members = record { index = index; plan = 0; members = members }
 
 -- what a member of a group of these has stored at first
 abbrev pub nothing_stored : List ℕ → PersistentState
-nothing_stored members = record { term = 0; vote = 0; base = 0; base_term = 0; base_configuration = configured 0 members; snapshot = []; log = [] }
+nothing_stored members = persistent.new_group members
 
 abbrev pub new_group : List ℕ → Group
 new_group members = record { seats = λ m. seated (nothing_stored members) (started 0 0); sent = [] }
@@ -83,11 +88,11 @@ three = 1 ∷ 2 ∷ 3 ∷ []
 abbrev pub end_at : ℕ → ℕ → LogEnd
 end_at index term = record { term = term; index = index }
 
-abbrev pub empty : ℕ → Entry
-empty term = record { term = term; body = empty_entry }
+abbrev pub empty : ℕ → LogEntry
+empty term = record { term = term; bytes = empty_entry }
 
-abbrev pub entry : ℕ → List ℕ → Entry
-entry term body = record { term = term; body = body }
+abbrev pub entry : ℕ → List ℕ → LogEntry
+entry term bytes = record { term = term; bytes = bytes }
 
 -- bytes that stand for a call
 abbrev pub call : List ℕ
@@ -214,7 +219,7 @@ adds = At 1 (tick 2000) ∷ At 1 (Propose call) ∷ At 1 (Propose call) ∷ At 1
 abbrev pub addition : List Mail
 addition =
     mail 1 2 (Append 1 5 1 5 (entry 1 (members_entry None 0 (1 ∷ 2 ∷ [])) ∷ [])) ∷ mail 2 1 (AppendReply 1 false 0)
-    ∷ mail 1 2 (Snapshot 1 5 0 true (snapshot_bytes (record { term = 1; configuration = configured 0 (1 ∷ []) }) (8 ∷ 8 ∷ []))) ∷ mail 2 1 (SnapshotReply 1 5 true 0)
+    ∷ mail 1 2 (Snapshot 1 5 0 true (snapshot_bytes (record { term = 1; config = configured 0 (1 ∷ []) }) (8 ∷ 8 ∷ []))) ∷ mail 2 1 (SnapshotReply 1 5 true 0)
     ∷ mail 1 2 (Append 1 5 1 5 (entry 1 (members_entry None 0 (1 ∷ 2 ∷ [])) ∷ [])) ∷ mail 2 1 (AppendReply 1 true 6) ∷ []
 
 abbrev pub added : Group

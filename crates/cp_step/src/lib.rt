@@ -7,6 +7,7 @@ ghost use Rattle.std.specs.Prelude.{◌≡◌, ◌++◌, true, false, [], ◌∷
 ghost use Rattle.cp_answers.specs.declared.refusal.Refusal.TheVariants.{WrongMembers, ChangePending, NoOwnTermCommit, AlreadyThere, NotThere, LastMember};
 ghost use Rattle.cp_step.specs.declared.outcome.Outcome.TheVariants.{Refused};
 ghost use Rattle.cp_step.specs.Spelling.{ChangesAreSpelled, SnapshotsReadBack};
+ghost use Rattle.cp_step.specs.Parts.{PartsChangeTheirGroup};
 ghost use Rattle.cp_step.specs.Volatile.{started};
 ghost use Rattle.cp_step.specs.Local.{does, reply, Got, Append, AppendReply, ChangeMembers, Confirmed};
 ghost use Rattle.cp_step.specs.Snapshots.{CompletesWhereInstalled};
@@ -119,6 +120,11 @@ pub fn completes_where_installed()
 /// A members entry has the members that it was made with, and no others.
 pub fn changes_are_spelled()
     ensures { ChangesAreSpelled }
+{}
+
+/// The part of a step changes what the member has stored of its group, as the step says, and no other group.
+pub fn parts_change_their_group()
+    ensures { PartsChangeTheirGroup }
 {}
 
 /// What a snapshot begins with is read from its bytes.

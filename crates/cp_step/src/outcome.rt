@@ -1,6 +1,6 @@
 //! What a step answers to its caller.
 
-use cp_ops::Refusal;
+use cp_answers::Refusal;
 
 /// What a step answers to its caller.
 #[derive(Clone, Copy, Debug, PartialEq, Eq)]

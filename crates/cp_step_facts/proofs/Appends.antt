@@ -5,13 +5,14 @@ use Rattle.std.proofs.lemmas.List.{length-drop}
 use Rattle.std.proofs.lemmas.List.Elements.{All-nil}
 use Rattle.std.proofs.lemmas.Option.{slice_get_within}
 use Rattle.cp_rules.specs.Clusters as cluster
-use Rattle.cp_rules.specs.Entries.{Entry}
+use Rattle.cp_parts.specs.declared.log_entry.LogEntry.{LogEntry}
 use Rattle.cp_rules.specs.Logs.{HasTerms, Replaces}
 use Rattle.cp_rules.specs.Facts.{GotAppend, Acknowledges}
 use Rattle.cp_agreement.proofs.Logs.{get-drop, replaced_low, replaced_length}
 use Rattle.cp_safety.specs.Tracking.{untracked_cluster, uncut_step, SendsTruly}
 use Rattle.cp_step.specs.declared.role.Role.TheVariants.{Follower}
-use Rattle.cp_step.specs.Persistent.{PersistentState, AppendPart, ballot, last_index, term_at, has_term, ballot_part}
+use Rattle.cp_store_state.specs.Persistent.{PersistentState, last, term_at, with_ballot}
+use Rattle.cp_step.specs.Persistent.{AppendPart, ballot, has_term, ballot_part}
 use Rattle.cp_step.specs.Volatile.{VolatileState}
 use Rattle.cp_step.specs.Local.{Sent, AppendReply, does, reply, send}
 use Rattle.cp_step.specs.Terms.{adopted}
@@ -19,11 +20,11 @@ use Rattle.cp_step.specs.Appends.{following, Difference, difference, follower_co
 use Rattle.cp_step_facts.proofs.Basics.{either, follower_or_leader, follower_or_candidate, one}
 use Rattle.cp_step_facts.proofs.Knowing.{has_known, known_within}
 use Rattle.cp_step_facts.proofs.Turns.{Turn, got, here, core, Truth, Left, Good}
-use Rattle.cp_step_facts.proofs.Quiet.{with_ballot, after_ballot, adopting, adopted_term, calm_low, takes_ballot}
+use Rattle.cp_step_facts.proofs.Quiet.{after_ballot, adopting, adopted_term, calm_low, takes_ballot}
 use Rattle.cp_step_facts.proofs.Votes.{plain}
 use Rattle.cp_step_facts.proofs.Differences.{differs_at, replaced_terms, reaches, replacing, none_replaced}
 
-module _ (t : Turn) (from term previous previous_term told : ℕ) (entries : List Entry) (got_is : got t ≡ Some (cluster.Append from term previous previous_term entries told)) (low : t.p.term ≤ term) where
+module _ (t : Turn) (from term previous previous_term told : ℕ) (entries : List LogEntry) (got_is : got t ≡ Some (cluster.Append from term previous previous_term entries told)) (low : t.p.term ≤ term) where
   -- where the message ends
   abbrev index : ℕ
   index = previous + length entries
@@ -32,20 +33,20 @@ module _ (t : Turn) (from term previous previous_term told : ℕ) (entries : Lis
   state = record (following from t.v) { commit = follower_commit t.v.commit told index }
 
   -- the stored state with this log
-  abbrev stored : List Entry → PersistentState
+  abbrev stored : List LogEntry → PersistentState
   stored log = record t.p { term = (adopted term (ballot t.p)).term; vote = (adopted term (ballot t.p)).vote; log = log }
 
   abbrev yes_sent : List Sent
   yes_sent = reply from (AppendReply (adopted term (ballot t.p)).term true index)
 
   -- the entries that are looked at, q entries after the base
-  pub record Placed (q : ℕ) (es : List Entry) : Type 0 where
+  pub record Placed (q : ℕ) (es : List LogEntry) : Type 0 where
     pub is : ((previous ≡ t.p.base + q) × (es ≡ entries) × (has_term t.p previous previous_term ≡ true)) ⊎ ((previous < t.p.base) × (q ≡ 0) × (es ≡ drop (t.p.base - previous) entries))
 
-  abbrev came : (log : List Entry) → GotAppend (untracked_cluster (here t)) (uncut_step (core t false (stored log) state))
+  abbrev came : (log : List LogEntry) → GotAppend (untracked_cluster (here t)) (uncut_step (core t false (stored log) state))
   came log = record { sender = from; previous = previous; previous_term = previous_term; entries = entries; commit = told; got = got_is ∙ ap (λ u. Some (cluster.Append from u previous previous_term entries told)) (sym (adopted_term term t.p low)) }
 
-  abbrev acknowledged : (q : ℕ) (es log : List Entry) → Placed q es → HasTerms log q es (length es) → ((k : ℕ) (e : Entry) → k < q → slice_get t.p.log k ≡ Some e → slice_get log k ≡ Some e)
+  abbrev acknowledged : (q : ℕ) (es log : List LogEntry) → Placed q es → HasTerms log q es (length es) → ((k : ℕ) (e : LogEntry) → k < q → slice_get t.p.log k ≡ Some e → slice_get log k ≡ Some e)
       → Acknowledges (untracked_cluster (here t)) (uncut_step (core t false (stored log) state)) index
   acknowledged q es log placed terms kept = record {
     came = came log;
@@ -72,12 +73,12 @@ module _ (t : Turn) (from term previous previous_term told : ℕ) (entries : Lis
   }
 
   -- the log has what the message says: as it was, or after a replacement
-  taken : (q : ℕ) (es log : List Entry) → Placed q es → q ≤ length log → t.v.commit ≤ t.p.base + length log → ((log ≡ t.p.log) × HasTerms t.p.log q es (length es)) ⊎ Replaces t.p.log q es log → Left t false (stored log) state yes_sent
+  taken : (q : ℕ) (es log : List LogEntry) → Placed q es → q ≤ length log → t.v.commit ≤ t.p.base + length log → ((log ≡ t.p.log) × HasTerms t.p.log q es (length es)) ⊎ Replaces t.p.log q es log → Left t false (stored log) state yes_sent
   taken q es log placed fits old change =
       let p' = stored log in
       let ad = adopting term t.p t.v in
       let terms : HasTerms log q es (length es) = ⊎_elim (λ x. subst (λ l. HasTerms l q es (length es)) (sym x.0) x.1) (λ (x : Replaces t.p.log q es log). replaced_terms t.p.log es log q x) change in
-      let kept : (k : ℕ) (e : Entry) → k < q → slice_get t.p.log k ≡ Some e → slice_get log k ≡ Some e = (λ k e less at. ⊎_elim
+      let kept : (k : ℕ) (e : LogEntry) → k < q → slice_get t.p.log k ≡ Some e → slice_get log k ≡ Some e = (λ k e less at. ⊎_elim
       (λ x. ap (λ l. slice_get l k) x.0 ∙ at)
       (λ (x : Replaces t.p.log q es log). replaced_low t.p.log log q es x k (omega (arith, less)) ∙ at)
       change) in
@@ -131,12 +132,12 @@ module _ (t : Turn) (from term previous previous_term told : ℕ) (entries : Lis
       }
 
   -- what is taken on from a leader, without its entries
-  follows : (sends : List Sent) → ((leads : Bool) → All (Truth t leads (with_ballot t.p (adopted term (ballot t.p)).term (adopted term (ballot t.p)).vote) (following from t.v)) sends)
+  follows : (sends : List Sent) → ((leads : Bool) → All (Truth t leads (with_ballot (adopted term (ballot t.p)).term (adopted term (ballot t.p)).vote t.p) (following from t.v)) sends)
       → Good t (does (ballot_part t.p (adopted term (ballot t.p))) (following from t.v) sends)
   follows sends says = takes_ballot t term (following from t.v) sends refl (inl refl) (inl refl) says
 
   -- the difference is looked for
-  looked : (q : ℕ) (es : List Entry) → Placed q es → q ≤ length t.p.log → Good t (takes t.p (adopted term (ballot t.p)) (following from t.v) from told index (difference (term_at t.p) (t.p.base + q) es))
+  looked : (q : ℕ) (es : List LogEntry) → Placed q es → q ≤ length t.p.log → Good t (takes t.p (adopted term (ballot t.p)) (following from t.v) from told index (difference (term_at t.p) (t.p.base + q) es))
   looked q es placed fits = look (difference (term_at t.p) (t.p.base + q) es) refl
     where
       look : (o : Option Difference) → difference (term_at t.p) (t.p.base + q) es ≡ o → Good t (takes t.p (adopted term (ballot t.p)) (following from t.v) from told index o)
@@ -150,22 +151,22 @@ module _ (t : Turn) (from term previous previous_term told : ℕ) (entries : Lis
           let long : length log ≡ q + length es = replaced_length t.p.log log q es r in
           let there = slice_get_within es x.k x.entry x.there in
           either (Good t) (nat_lt d.after t.v.commit) (does (ballot_part t.p (adopted term (ballot t.p))) (following from t.v) []) (does (Some (AppendPart (adopted term (ballot t.p)) d.after d.entries)) state yes_sent)
-          (λ h. follows [] (λ leads. All-nil (Truth t leads (with_ballot t.p (adopted term (ballot t.p)).term (adopted term (ballot t.p)).vote) (following from t.v))))
+          (λ h. follows [] (λ leads. All-nil (Truth t leads (with_ballot (adopted term (ballot t.p)).term (adopted term (ballot t.p)).vote t.p) (following from t.v))))
           (λ h. let high = ltb-false d.after t.v.commit h in taken q es log placed (omega (arith, long)) (omega (arith, high, long, x.after_is, there)) (inr r))
 
   untaken : (i : ℕ) → Good t (does (ballot_part t.p (adopted term (ballot t.p))) (following from t.v) (reply from (AppendReply (adopted term (ballot t.p)).term false i)))
   untaken i = follows (reply from (AppendReply (adopted term (ballot t.p)).term false i))
-      (λ leads. one (Truth t leads (with_ballot t.p (adopted term (ballot t.p)).term (adopted term (ballot t.p)).vote) (following from t.v)) (send from (AppendReply (adopted term (ballot t.p)).term false i)) (tt, tt))
+      (λ leads. one (Truth t leads (with_ballot (adopted term (ballot t.p)).term (adopted term (ballot t.p)).vote t.p) (following from t.v)) (send from (AppendReply (adopted term (ballot t.p)).term false i)) (tt, tt))
 
   -- an Append that goes on from an index, at or above the base
-  pub going : (at at_term q : ℕ) (es : List Entry) → at ≡ t.p.base + q → (has_term t.p at at_term ≡ true → Placed q es) → Good t (goes_on t.p (adopted term (ballot t.p)) (following from t.v) from at at_term told index es)
+  pub going : (at at_term q : ℕ) (es : List LogEntry) → at ≡ t.p.base + q → (has_term t.p at at_term ≡ true → Placed q es) → Good t (goes_on t.p (adopted term (ballot t.p)) (following from t.v) from at at_term told index es)
   going at at_term q es at_is placed = either (Good t) (has_term t.p at at_term) (takes t.p (adopted term (ballot t.p)) (following from t.v) from told index (difference (term_at t.p) at es))
-      (does (ballot_part t.p (adopted term (ballot t.p))) (following from t.v) (reply from (AppendReply (adopted term (ballot t.p)).term false (refused_index (last_index t.p) at))))
+      (does (ballot_part t.p (adopted term (ballot t.p))) (following from t.v) (reply from (AppendReply (adopted term (ballot t.p)).term false (refused_index (last t.p) at))))
       (λ h. let within = (known_within t.p t.v at at_term (has_known t.p t.v at at_term h)).1 in
       subst (λ n. Good t (takes t.p (adopted term (ballot t.p)) (following from t.v) from told index (difference (term_at t.p) n es))) (sym at_is) (looked q es (placed h) (omega (arith, at_is, within))))
-      (λ h. untaken (refused_index (last_index t.p) at))
+      (λ h. untaken (refused_index (last t.p) at))
 
-pub append_good : (t : Turn) (from term previous previous_term told : ℕ) (entries : List Entry) → got t ≡ Some (cluster.Append from term previous previous_term entries told) → Good t (on_append t.p t.v from term previous previous_term told entries)
+pub append_good : (t : Turn) (from term previous previous_term told : ℕ) (entries : List LogEntry) → got t ≡ Some (cluster.Append from term previous previous_term entries told) → Good t (on_append t.p t.v from term previous previous_term told entries)
 append_good t from term previous previous_term told entries is =
     let b = adopted term (ballot t.p) in
     let index = previous + length entries in

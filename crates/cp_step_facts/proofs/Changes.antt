@@ -1,24 +1,30 @@
 -- Entries that a leader is asked for, and changes of members.
-use Rattle.std.proofs.Common.{◌&&◌, ◌==◌, ◌≡◌, ℕ, zero, suc, ◌+◌, ◌<◌, ◌≤◌, ◌⊎◌, inl, inr, ⊎_elim, not, Bool, true, false, List, [], ◌∷◌, length, refl, ap, sym, ◌∙◌, arith, subst, Option, Some, None, unwrap_or, slice_get, nat_lt, le_refl, le_of_eq, true≢false, ltb-false, if◌then◌else◌}
+use Rattle.std.proofs.Common.{◌&&◌, ◌==◌, ◌≡◌, ℕ, zero, suc, ◌+◌, ◌<◌, ◌≤◌, ◌⊎◌, inl, inr, ⊎_elim, not, Bool, true, false, List, [], ◌∷◌, length, refl, ap, sym, ◌∙◌, arith, subst, Option, Some, None, option_map, slice_get, nat_lt, le_refl, le_of_eq, true≢false, ltb-false, if◌then◌else◌}
 use Rattle.std.proofs.lemmas.Bool.{cases_Bool, eqb-true}
 use Rattle.std.proofs.lemmas.Option.{same_Some}
 use Rattle.cp_base.specs.declared.identifier.Invocation.{Invocation}
 use Rattle.cp_answers.specs.declared.refusal.Refusal.{Refusal}
 use Rattle.cp_answers.specs.declared.refusal.Refusal.TheVariants.{NotLeader, WrongMembers, ChangePending, NoOwnTermCommit, AlreadyThere, NotThere, LastMember}
-use Rattle.cp_rules.specs.Entries.{Entry, members_in}
+use Rattle.cp_parts.specs.declared.log_entry.LogEntry.{LogEntry}
+use Rattle.cp_rules.specs.Entries.{members_in}
 use Rattle.cp_rules.specs.Configurations.{HasOneMore, AreOneApart}
 use Rattle.cp_rules.specs.Facts.{KnowsTerm, ChangesAreSingle, configuration_of}
 use Rattle.cp_safety.specs.Tracking.{untracked, untracked_cluster, uncut_step}
 use Rattle.cp_step.specs.declared.change.Change.{Change}
 use Rattle.cp_step.specs.declared.peer.Peer.{Peer}
 use Rattle.cp_step.specs.declared.role.Role.TheVariants.{Leader}
-use Rattle.cp_step.specs.Spelling.{Configuration, configuration_in, plan_in, members_entry}
-use Rattle.cp_step.specs.Persistent.{ballot, last_index, known_term, configuration, configuration_after, members, is_member}
+use Rattle.cp_parts.specs.declared.config.Config.{Config}
+use Rattle.cp_parts.specs.Configs.{config_in}
+use Rattle.cp_step.specs.Spelling.{members_entry}
+use Rattle.cp_store_state.specs.Persistent.{last}
+use Rattle.cp_store_state.specs.Configurations.{config_or, config_after}
+use Rattle.cp_step.specs.Persistent.{ballot, known_term, configuration, members, is_member}
 use Rattle.cp_step.specs.Volatile.{VolatileState, peer, new_peer, with_peer}
 use Rattle.cp_step.specs.Local.{LocalStep, is_leader}
 use Rattle.cp_step.specs.Requests.{refuses_entry, unless_refused, proposes, on_propose}
 use Rattle.cp_step.specs.Changes.{refuses_change, with_member, without_member, changed, with_added, changes, on_change}
-use Rattle.cp_step.proofs.SpellingLaws.{entry_members}
+use Rattle.cp_store_state.proofs.InForce.{config_index}
+use Rattle.cp_step.proofs.SpellingLaws.{entry_members, config_members}
 use Rattle.cp_step_facts.specs.Seen.{seen_role, tracked_member}
 use Rattle.cp_step_facts.specs.Soundness.{IsPlaced}
 use Rattle.cp_step_facts.proofs.Basics.{either, from_not, leader_is, set_index}
@@ -44,7 +50,7 @@ further n s x h = let a = h.next in let b = h.matched in record { first = h.firs
 
 -- A leader's entry: its state is as before, but that one peer may begin anew.
 pub own_entry : (t : Turn) (w : VolatileState) (entry : List ℕ) → t.v.role ≡ Leader → w.role ≡ t.v.role → w.commit ≡ t.v.commit → w.received ≡ t.v.received
-    → ((f : ℕ) → (peer w.peers f ≡ peer t.v.peers f) ⊎ (peer w.peers f ≡ new_peer (suc (last_index t.p))))
+    → ((f : ℕ) → (peer w.peers f ≡ peer t.v.peers f) ⊎ (peer w.peers f ≡ new_peer (suc (last t.p))))
     → ((v' : VolatileState) (ms : List ℕ) → members_in entry ≡ Some ms → ChangesAreSingle (untracked_cluster (here t)) (uncut_step (core t true (created t.p (ballot t.p) entry) v')) ms)
     → Creates t w (ballot t.p) entry
 own_entry t w entry leader role commit received peers change = record {
@@ -57,8 +63,8 @@ own_entry t w entry leader role commit received peers change = record {
   elected = λ v'. inl (ap seen_role leader, refl);
   matched = λ v' f. ⊎_elim (λ z. inr (inl (ap seen_role leader, refl, le_of_eq (ap (λ x. x.matched) z)))) (λ z. inl (ap (λ x. x.matched) z)) (peers f);
   placed = λ f. ⊎_elim
-      (λ z. subst (IsPlaced (suc (last_index t.p)) (length t.p.snapshot)) (sym z) (further (last_index t.p) (length t.p.snapshot) (peer t.v.peers f) (t.sound.peers leader f)))
-      (λ z. subst (IsPlaced (suc (last_index t.p)) (length t.p.snapshot)) (sym z) (record { first = omega arith; next = omega arith; matched = omega arith; offset = omega arith }))
+      (λ z. subst (IsPlaced (suc (last t.p)) (length t.p.snapshot)) (sym z) (further (last t.p) (length t.p.snapshot) (peer t.v.peers f) (t.sound.peers leader f)))
+      (λ z. subst (IsPlaced (suc (last t.p)) (length t.p.snapshot)) (sym z) (record { first = omega arith; next = omega arith; matched = omega arith; offset = omega arith }))
       (peers f);
   change = change;
 }
@@ -89,28 +95,40 @@ take_one x (m ∷ ms) h = ⊎_elim
 
 -- ---- the index of the configuration is that of the last members entry
 
-index_once : (c : Configuration) (i : ℕ) (body : List ℕ) → c.index ≤ i → (c.index ≤ (unwrap_or (configuration_in (suc i) body) c).index) × ((unwrap_or (configuration_in (suc i) body) c).index ≤ suc i)
-index_once c i body h = look (members_in body) refl
+index_once : (c : Config) (at : ℕ) (bytes : List ℕ) → c.index ≤ at → (c.index ≤ (config_or (config_in (at + 1) bytes) c).index) × ((config_or (config_in (at + 1) bytes) c).index ≤ at + 1)
+index_once c at bytes h = look (config_in (at + 1) bytes) (λ d is. config_index (at + 1) bytes d is)
   where
-    look : (o : Option (List ℕ)) → members_in body ≡ o → (c.index ≤ (unwrap_or (configuration_in (suc i) body) c).index) × ((unwrap_or (configuration_in (suc i) body) c).index ≤ suc i)
-    look None e = rw e (le_refl c.index, omega (arith, h))
-    look (Some ms) e = rw e (omega (arith, h), le_refl (suc i))
+    look : (o : Option Config) → ((d : Config) → o ≡ Some d → d.index ≡ at + 1) → (c.index ≤ (config_or o c).index) × ((config_or o c).index ≤ at + 1)
+    look None is = (le_refl c.index, omega (arith, h))
+    look (Some d) is = let e = is d refl in (omega (arith, h, e), omega (arith, e))
 
-index_up : (c : Configuration) (i : ℕ) (log : List Entry) → c.index ≤ i → c.index ≤ (configuration_after c i log).index
-index_up c i [] h = le_refl c.index
-index_up c i (e ∷ log) h =
-    let x = index_once c i e.body h in
-    let z = index_up (unwrap_or (configuration_in (suc i) e.body) c) (suc i) log x.1 in
+index_up : (c : Config) (at : ℕ) (log : List LogEntry) → c.index ≤ at → c.index ≤ (config_after c at log).index
+unfolding config_after
+index_up c at [] h = le_refl c.index
+index_up c at (e ∷ log) h =
+    let x = index_once c at e.bytes h in
+    let z = index_up (config_or (config_in (at + 1) e.bytes) c) (at + 1) log x.1 in
     let low = x.0 in omega (arith, low, z)
 
-reaches_index : (c : Configuration) (i : ℕ) (log : List Entry) (k : ℕ) (e : Entry) (ms : List ℕ) → slice_get log k ≡ Some e → members_in e.body ≡ Some ms → suc (i + k) ≤ (configuration_after c i log).index
-reaches_index c i [] k e ms is has = absurd (cc)
-reaches_index c i (x ∷ log) zero e ms is has =
-    let there : members_in x.body ≡ Some ms = ap (λ y. members_in y.body) (same_Some x e is) ∙ has in
-    let here_is : unwrap_or (configuration_in (suc i) x.body) c ≡ record { index = suc i; plan = plan_in x.body; members = ms } = rw there refl in
-    let z = index_up (record { index = suc i; plan = plan_in x.body; members = ms }) (suc i) log (le_refl (suc i)) in
-    subst (λ (d : Configuration). suc (i + 0) ≤ (configuration_after d (suc i) log).index) (sym here_is) (omega (arith, z))
-reaches_index c i (x ∷ log) (suc k) e ms is has = let z = reaches_index (unwrap_or (configuration_in (suc i) x.body) c) (suc i) log k e ms is has in omega (arith, z)
+-- an entry that sets members brings a configuration
+brings : (at : ℕ) (bytes ms : List ℕ) → members_in bytes ≡ Some ms → (d : Config) × (config_in at bytes ≡ Some d)
+brings at bytes ms has = look (config_in at bytes) refl (config_members at bytes ∙ has)
+  where
+    look : (o : Option Config) → config_in at bytes ≡ o → option_map (λ (c : Config). c.members) o ≡ Some ms → (d : Config) × (config_in at bytes ≡ Some d)
+    look None is h = absurd (cc)
+    look (Some d) is h = (d, is)
+
+reaches_index : (c : Config) (at : ℕ) (log : List LogEntry) (k : ℕ) (e : LogEntry) (ms : List ℕ) → slice_get log k ≡ Some e → members_in e.bytes ≡ Some ms → suc (at + k) ≤ (config_after c at log).index
+unfolding config_after
+reaches_index c at [] k e ms is has = absurd (cc)
+reaches_index c at (x ∷ log) zero e ms is has =
+    let there : members_in x.bytes ≡ Some ms = ap (λ y. members_in y.bytes) (same_Some x e is) ∙ has in
+    let d = brings (at + 1) x.bytes ms there in
+    let index_is = config_index (at + 1) x.bytes d.0 d.1 in
+    let z = index_up d.0 (at + 1) log (le_of_eq index_is) in
+    let here_is : config_or (config_in (at + 1) x.bytes) c ≡ d.0 = ap (λ (o : Option Config). config_or o c) d.1 in
+    subst (λ (b : Config). suc (at + 0) ≤ (config_after b (at + 1) log).index) (sym here_is) (omega (arith, z, index_is))
+reaches_index c at (x ∷ log) (suc k) e ms is has = let z = reaches_index (config_or (config_in (at + 1) x.bytes) c) (at + 1) log k e ms is has in omega (arith, z)
 
 -- ---- what the refusals leave
 
@@ -177,7 +195,7 @@ module _ (t : Turn) (change : Change) (plan : ℕ) (call : Option Invocation) (l
       let ct : known_term t.p 0 ≡ t.p.term = ap (known_term t.p) (sym e) ∙ allowed.own_term in
       ⊎_elim
       (λ (z : (0 ≡ t.p.base) × (known_term t.p 0 ≡ t.p.base_term)). let a = z.1 in omega (arith, a, zt, ct, up))
-      (λ (z : (k : ℕ) × (0 ≡ suc (t.p.base + k)) × ((x : Entry) × (slice_get t.p.log k ≡ Some x) × (x.term ≡ known_term t.p 0))). let a = z.1 in omega (arith, a))
+      (λ (z : (k : ℕ) × (0 ≡ suc (t.p.base + k)) × ((x : LogEntry) × (slice_get t.p.log k ≡ Some x) × (x.term ≡ known_term t.p 0))). let a = z.1 in omega (arith, a))
       (knows_at t.p t.v 0 (omega (arith, base)) (omega arith)))
   above_zero (suc c) e = omega arith
 
@@ -185,19 +203,19 @@ module _ (t : Turn) (change : Change) (plan : ℕ) (call : Option Invocation) (l
       → ChangesAreSingle (untracked_cluster (here t)) (uncut_step (core t true (created t.p (ballot t.p) entry) v')) ms
   single v' entry apart ms is = let settled = allowed.settled in record {
     one_apart = subst (λ l. AreOneApart (configuration_of (untracked (tracked_member t.p t.v))) l) (sym is) (subst (λ l. AreOneApart l (changed change (members t.p))) (members_are t.p t.v) apart);
-    settled = λ k e le there. no_change k e le there (members_in e.body) refl;
+    settled = λ k e le there. no_change k e le there (members_in e.bytes) refl;
     own = (t.v.commit, above_zero t.v.commit refl, le_refl t.v.commit, subst (λ u. KnowsTerm (untracked (tracked_member t.p t.v)) t.v.commit u) allowed.own_term (knows_at t.p t.v t.v.commit t.sound.above_base t.sound.within));
   }
     where
-      no_change : (k : ℕ) (e : Entry) → t.v.commit ≤ t.p.base + k → slice_get t.p.log k ≡ Some e → (o : Option (List ℕ)) → members_in e.body ≡ o → members_in e.body ≡ None
+      no_change : (k : ℕ) (e : LogEntry) → t.v.commit ≤ t.p.base + k → slice_get t.p.log k ≡ Some e → (o : Option (List ℕ)) → members_in e.bytes ≡ o → members_in e.bytes ≡ None
       no_change k e le there None z = z
-      no_change k e le there (Some ms) z = absurd (let n = reaches_index t.p.base_configuration t.p.base t.p.log k e ms there z in let s = allowed.settled in omega (arith, n, le, s))
+      no_change k e le there (Some ms) z = absurd (let n = reaches_index t.p.base_config t.p.base t.p.log k e ms there z in let s = allowed.settled in omega (arith, n, le, s))
 
   changes_good : ((c : Invocation) → call ≡ Some c → length c.client.0 ≡ 16) → Good t (changes t.me t.p t.v change plan call)
   changes_good named =
       let ms = changed change (members t.p) in
       let w = with_added t.p t.v change in
-      let x = new_peer (suc (last_index t.p)) in
+      let x = new_peer (suc (last t.p)) in
       let added = with_peer change.member.0 x t.v in
       let entry = members_entry call plan ms in
       let apart : AreOneApart (members t.p) ms = either (λ l. AreOneApart (members t.p) l) add (with_member change.member.0 (members t.p)) (without_member change.member.0 (members t.p))

@@ -4,7 +4,8 @@ use Rattle.std.proofs.lemmas.Bool.{eqb-true, or_cases, leb-true, leb-false, and_
 use Rattle.std.proofs.lemmas.List.{length-append, length-take}
 use Rattle.std.proofs.lemmas.List.Elements.{All-nil}
 use Rattle.std.proofs.Math.Seq.{take-length}
-use Rattle.cp_rules.specs.Entries.{Entry, members_in}
+use Rattle.cp_parts.specs.declared.log_entry.LogEntry.{LogEntry}
+use Rattle.cp_rules.specs.Entries.{members_in}
 use Rattle.cp_rules.specs.Configurations.{HasQuorum}
 use Rattle.cp_rules.specs.Facts.{KnowsTerm, ChangesAreSingle, configuration_of}
 use Rattle.cp_agreement.proofs.Logs.{get-drop}
@@ -15,7 +16,9 @@ use Rattle.cp_safety.specs.Chunks.{IsPiece}
 use Rattle.cp_step.specs.declared.ballot.Ballot.{Ballot}
 use Rattle.cp_step.specs.declared.role.Role.TheVariants.{Follower, Candidate, Leader}
 use Rattle.cp_step.specs.Limits.{batch_entries, batch_bytes, chunk_bytes}
-use Rattle.cp_step.specs.Persistent.{PersistentState, last_index, term_at, has_term, configuration_at, members, is_member, others, is_quorum, with_part}
+use Rattle.cp_store_state.specs.Persistent.{PersistentState, last, term_at}
+use Rattle.cp_store_state.specs.Configurations.{config_at}
+use Rattle.cp_step.specs.Persistent.{has_term, members, is_member, others, is_quorum, with_part}
 use Rattle.cp_step.specs.Volatile.{VolatileState, peer}
 use Rattle.cp_step.specs.Local.{is_leader, send}
 use Rattle.cp_step.specs.Terms.{steps_down}
@@ -44,40 +47,40 @@ pub record Commits (v w : VolatileState) (i : ℕ) : Type 0 where
   pub role : (w.role ≡ v.role) ⊎ (w.role ≡ Follower)
 
 pub committing : (me : ℕ) (p : PersistentState) (v : VolatileState) (i : ℕ) → Commits v (commits_to me p v i) i
-committing me p v i = either (λ z. Commits v z i) (i == v.commit) v (if is_member me (configuration_at p i).members then record v { commit = i } else steps_down (record v { commit = i }))
+committing me p v i = either (λ z. Commits v z i) (i == v.commit) v (if is_member me (config_at p i).members then record v { commit = i } else steps_down (record v { commit = i }))
     (λ e. record { commit = sym (eqb-true i v.commit e); peers = refl; received = refl; role = inl refl })
-    (λ e. either (λ z. Commits v z i) (is_member me (configuration_at p i).members) (record v { commit = i }) (steps_down (record v { commit = i }))
+    (λ e. either (λ z. Commits v z i) (is_member me (config_at p i).members) (record v { commit = i }) (steps_down (record v { commit = i }))
     (λ h. record { commit = refl; peers = refl; received = refl; role = inl refl })
     (λ h. record { commit = refl; peers = refl; received = refl; role = inr refl }))
 
 -- where the commit is found: it stays, or rises within the log
-pub commit_rises : (me : ℕ) (p : PersistentState) (v : VolatileState) → v.commit ≤ last_index p → (v.commit ≤ (commits me p v).commit) × ((commits me p v).commit ≤ last_index p)
+pub commit_rises : (me : ℕ) (p : PersistentState) (v : VolatileState) → v.commit ≤ last p → (v.commit ≤ (commits me p v).commit) × ((commits me p v).commit ≤ last p)
 commit_rises me p v fits =
     let i = commit_found me p v in
     let c = committing me p v i in
     ⊎_elim
     (λ (z : i ≡ v.commit). (omega (arith, c.commit, z), omega (arith, c.commit, z, fits)))
     (λ z. let low = z.0 in let high = z.1 in (omega (arith, c.commit, low), omega (arith, c.commit, high, fits)))
-    (found (may_commit me (term_at p) p.term (members p) v.peers) v.commit (last_index p - v.commit))
+    (found (may_commit me (term_at p) p.term (members p) v.peers) v.commit (last p - v.commit))
 
 -- ---- what a leader sends
 
 -- entries within the limits begin as the entries do
-within_get : (es : List Entry) (n b k : ℕ) (e : Entry) → slice_get (within es n b) k ≡ Some e → slice_get es k ≡ Some e
+within_get : (es : List LogEntry) (n b k : ℕ) (e : LogEntry) → slice_get (within es n b) k ≡ Some e → slice_get es k ≡ Some e
 within_get [] n b k e is = is
-within_get (x ∷ es) n b k e is = either (λ l. slice_get l k ≡ Some e → slice_get (x ∷ es) k ≡ Some e) (nat_lt 0 n && nat_le (length x.body) b) (x ∷ within es (n - 1) (b - length x.body)) []
-    (λ h is. later k (λ j z. within_get es (n - 1) (b - length x.body) j e z) is)
+within_get (x ∷ es) n b k e is = either (λ l. slice_get l k ≡ Some e → slice_get (x ∷ es) k ≡ Some e) (nat_lt 0 n && nat_le (length x.bytes) b) (x ∷ within es (n - 1) (b - length x.bytes)) []
+    (λ h is. later k (λ j z. within_get es (n - 1) (b - length x.bytes) j e z) is)
     (λ h is. absurd (cc))
     is
   where
-    later : (k : ℕ) → ((j : ℕ) → slice_get (within es (n - 1) (b - length x.body)) j ≡ Some e → slice_get es j ≡ Some e) → slice_get (x ∷ within es (n - 1) (b - length x.body)) k ≡ Some e → slice_get (x ∷ es) k ≡ Some e
+    later : (k : ℕ) → ((j : ℕ) → slice_get (within es (n - 1) (b - length x.bytes)) j ≡ Some e → slice_get es j ≡ Some e) → slice_get (x ∷ within es (n - 1) (b - length x.bytes)) k ≡ Some e → slice_get (x ∷ es) k ≡ Some e
     later zero rec is = is
     later (suc k) rec is = rec k is
 
-batch_get : (es : List Entry) (k : ℕ) (e : Entry) → slice_get (batch es) k ≡ Some e → slice_get es k ≡ Some e
+batch_get : (es : List LogEntry) (k : ℕ) (e : LogEntry) → slice_get (batch es) k ≡ Some e → slice_get es k ≡ Some e
 batch_get [] k e is = is
 batch_get (x ∷ es) zero e is = is
-batch_get (x ∷ es) (suc k) e is = within_get es (batch_entries - 1) (batch_bytes - length x.body) k e is
+batch_get (x ∷ es) (suc k) e is = within_get es (batch_entries - 1) (batch_bytes - length x.bytes) k e is
 
 pub own_chunk : (p : PersistentState) (offset : ℕ) → 0 < p.base → offset ≤ length p.snapshot → (p.base ≡ p.base) × (0 < p.base) × IsPiece p.snapshot offset (is_last_chunk p.snapshot offset) (chunk p.snapshot offset)
 own_chunk p offset above fits =
@@ -99,7 +102,7 @@ own_chunk p offset above fits =
     halves (suc n) (x ∷ l) = ap (λ r. x ∷ r) (halves n l)
 
 -- to one member, from one that leads in its step
-pub sends_one : (t : Turn) (p : PersistentState) (v : VolatileState) (f : ℕ) → IsPlaced (last_index p) (length p.snapshot) (peer v.peers f) → Truth t true p v (append_to p v f)
+pub sends_one : (t : Turn) (p : PersistentState) (v : VolatileState) (f : ℕ) → IsPlaced (last p) (length p.snapshot) (peer v.peers f) → Truth t true p v (append_to p v f)
 sends_one t p v f placed =
     let n = (peer v.peers f).next in
     either (λ b. Truth t true p v (send f b)) (nat_le n p.base) (chunk_from p (peer v.peers f).offset) (entries_from p v n)
@@ -123,7 +126,7 @@ sends_one t p v f placed =
     ))
 
 -- to all others
-pub sends_all : (t : Turn) (p : PersistentState) (v : VolatileState) → (v.role ≡ Leader → (f : ℕ) → IsPlaced (last_index p) (length p.snapshot) (peer v.peers f)) → All (Truth t true p v) (appends t.me p v)
+pub sends_all : (t : Turn) (p : PersistentState) (v : VolatileState) → (v.role ≡ Leader → (f : ℕ) → IsPlaced (last p) (length p.snapshot) (peer v.peers f)) → All (Truth t true p v) (appends t.me p v)
 sends_all t p v placed = either (All (Truth t true p v)) (is_leader v.role) (map (append_to p v) (others t.me (members p))) []
     (λ h. all_mapped (Truth t true p v) (append_to p v) (others t.me (members p)) (λ f. sends_one t p v f (placed (leader_is v.role h) f)))
     (λ h. All-nil (Truth t true p v))
@@ -146,7 +149,7 @@ commit_facts t p w same matched =
     let c = committing t.me p w i in
     ⊎_elim
     (λ (z : i ≡ w.commit). inl (omega (arith, c.commit, z, same)))
-    (λ (z : (w.commit < i) × (i ≤ w.commit + (last_index p - w.commit)) × (may_commit t.me (term_at p) p.term (members p) w.peers i ≡ true)).
+    (λ (z : (w.commit < i) × (i ≤ w.commit + (last p - w.commit)) × (may_commit t.me (term_at p) p.term (members p) w.peers i ≡ true)).
     let a = and_parts (has_term p i p.term) (is_quorum (members p) (holds t.me w.peers i)) z.2 in
     inr (record {
       leads = refl;
@@ -162,12 +165,12 @@ commit_facts t p w same matched =
           (matched f))
           (or_cases (f == t.me) (nat_le i (peer w.peers f).matched) chosen)));
     }))
-    (found (may_commit t.me (term_at p) p.term (members p) w.peers) w.commit (last_index p - w.commit))
+    (found (may_commit t.me (term_at p) p.term (members p) w.peers) w.commit (last p - w.commit))
 
 -- ---- an entry that a leader creates
 
-abbrev pub created_entry : Ballot → List ℕ → Entry
-created_entry b entry = record { term = b.term; body = entry }
+abbrev pub created_entry : Ballot → List ℕ → LogEntry
+created_entry b entry = record { term = b.term; bytes = entry }
 
 abbrev pub created : PersistentState → Ballot → List ℕ → PersistentState
 created p b entry = with_part (created_part p b entry) p
@@ -182,14 +185,14 @@ pub record Creates (t : Turn) (w : VolatileState) (b : Ballot) (entry : List ℕ
   pub keeps : t.p.term ≡ b.term → t.p.vote ≢ 0 → b.vote ≡ t.p.vote
   pub elected : (v' : VolatileState) → ((seen_role t.v.role ≡ tracking.Leader) × (t.p.term ≡ b.term)) ⊎ (WinsByVotes (here t) (core t true (created t.p b entry) v') ⊎ WinsAlone (here t) (core t true (created t.p b entry) v'))
   pub matched : (v' : VolatileState) (f : ℕ) → ((peer w.peers f).matched ≡ 0) ⊎ MatchedUpto (here t) (core t true (created t.p b entry) v') f (peer w.peers f).matched
-  pub placed : (f : ℕ) → IsPlaced (suc (last_index t.p)) (length t.p.snapshot) (peer w.peers f)
+  pub placed : (f : ℕ) → IsPlaced (suc (last t.p)) (length t.p.snapshot) (peer w.peers f)
   pub change : (v' : VolatileState) (ms : List ℕ) → members_in entry ≡ Some ms → ChangesAreSingle (untracked_cluster (here t)) (uncut_step (core t true (created t.p b entry) v')) ms
 
 module _ (t : Turn) (w : VolatileState) (b : Ballot) (entry : List ℕ) (c : Creates t w b entry) where
   created_log : (created t.p b entry).log ≡ t.p.log ++ (created_entry b entry ∷ [])
   created_log = ap (λ l. l ++ (created_entry b entry ∷ [])) (ap (λ n. take n t.p.log) (omega arith) ∙ take-length t.p.log)
 
-  created_last : last_index (created t.p b entry) ≡ suc (last_index t.p)
+  created_last : last (created t.p b entry) ≡ suc (last t.p)
   created_last = omega (arith, ap length created_log, length-append t.p.log (created_entry b entry ∷ []))
 
   -- the state after the entry is created and what can be is committed
@@ -202,11 +205,11 @@ module _ (t : Turn) (w : VolatileState) (b : Ballot) (entry : List ℕ) (c : Cre
       (λ z. follower_or_candidate after_created.role z h)
       (committing t.me (created t.p b entry) w (commit_found t.me (created t.p b entry) w)).role
 
-  pub created_placed : (f : ℕ) → IsPlaced (last_index (created t.p b entry)) (length t.p.snapshot) (peer after_created.peers f)
-  created_placed f = subst (λ l. IsPlaced (last_index (created t.p b entry)) (length t.p.snapshot) (peer l f)) (sym (committing t.me (created t.p b entry) w (commit_found t.me (created t.p b entry) w)).peers)
+  pub created_placed : (f : ℕ) → IsPlaced (last (created t.p b entry)) (length t.p.snapshot) (peer after_created.peers f)
+  created_placed f = subst (λ l. IsPlaced (last (created t.p b entry)) (length t.p.snapshot) (peer l f)) (sym (committing t.me (created t.p b entry) w (commit_found t.me (created t.p b entry) w)).peers)
       (subst (λ n. IsPlaced n (length t.p.snapshot) (peer w.peers f)) (sym created_last) (c.placed f))
 
-  created_rises : (w.commit ≤ after_created.commit) × (after_created.commit ≤ last_index (created t.p b entry))
+  created_rises : (w.commit ≤ after_created.commit) × (after_created.commit ≤ last (created t.p b entry))
   created_rises = commit_rises t.me (created t.p b entry) w (let a = t.sound.within in omega (arith, a, c.commit, created_last))
 
   created_facts : TrackedFacts (here t) (core t true (created t.p b entry) after_created)

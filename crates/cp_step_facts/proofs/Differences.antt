@@ -2,25 +2,26 @@
 use Rattle.std.proofs.Common.{◌≡◌, ◌≢◌, ℕ, zero, suc, ◌+◌, ◌-◌, ◌<◌, ◌≤◌, ◌⊎◌, inl, inr, ⊎_elim, true, false, List, [], ◌∷◌, ◌++◌, length, take, drop, refl, ap, ap₂, sym, ◌∙◌, arith, subst, Option, Some, None, slice_get, true≢false, option_map}
 use Rattle.std.proofs.lemmas.Bool.{eq-eqb, cases_lt, cases_Bool, eqb-true}
 use Rattle.std.proofs.lemmas.Option.{same_Some, slice_get_within}
-use Rattle.cp_rules.specs.Entries.{Entry}
+use Rattle.cp_parts.specs.declared.log_entry.LogEntry.{LogEntry}
 use Rattle.cp_rules.specs.Logs.{HasTerm, HasTerms, Replaces}
 use Rattle.cp_agreement.proofs.Logs.{has_place, replaced_low, replaced_high}
 use Rattle.cp_safety.proofs.Lists.{has_term_within}
-use Rattle.cp_step.specs.Persistent.{PersistentState, term_at, is_term, has_term}
+use Rattle.cp_store_state.specs.Persistent.{PersistentState, term_at}
+use Rattle.cp_step.specs.Persistent.{is_term, has_term}
 use Rattle.cp_step.specs.Appends.{Difference, difference}
 use Rattle.cp_step_facts.proofs.Knowing.{has_at}
 
 in_log : (p : PersistentState) (n t : ℕ) → has_term p (suc (p.base + n)) t ≡ true → HasTerm p.log (suc n) t
 in_log p n t h = look (slice_get p.log n) refl (sym (has_at p n t) ∙ h)
   where
-    look : (o : Option Entry) → slice_get p.log n ≡ o → is_term t (option_map (λ e. e.term) o) ≡ true → HasTerm p.log (suc n) t
+    look : (o : Option LogEntry) → slice_get p.log n ≡ o → is_term t (option_map (λ e. e.term) o) ≡ true → HasTerm p.log (suc n) t
     look None is h = absurd (true≢false (sym h))
     look (Some e) is h = (e, is, eqb-true e.term t h)
 
-not_in_log : (p : PersistentState) (n t : ℕ) → n ≤ length p.log → has_term p (suc (p.base + n)) t ≡ false → (length p.log ≡ n) ⊎ ((e : Entry) × (slice_get p.log n ≡ Some e) × (e.term ≢ t))
+not_in_log : (p : PersistentState) (n t : ℕ) → n ≤ length p.log → has_term p (suc (p.base + n)) t ≡ false → (length p.log ≡ n) ⊎ ((e : LogEntry) × (slice_get p.log n ≡ Some e) × (e.term ≢ t))
 not_in_log p n t le h = look (slice_get p.log n) refl (sym (has_at p n t) ∙ h)
   where
-    look : (o : Option Entry) → slice_get p.log n ≡ o → is_term t (option_map (λ e. e.term) o) ≡ false → (length p.log ≡ n) ⊎ ((e : Entry) × (slice_get p.log n ≡ Some e) × (e.term ≢ t))
+    look : (o : Option LogEntry) → slice_get p.log n ≡ o → is_term t (option_map (λ e. e.term) o) ≡ false → (length p.log ≡ n) ⊎ ((e : LogEntry) × (slice_get p.log n ≡ Some e) × (e.term ≢ t))
     look None is h = ⊎_elim
         (λ (low : n < length p.log). let x = has_place p.log n low in let z : None ≡ Some x.0 = sym is ∙ x.1 in absurd (cc))
         (λ (high : length p.log ≤ n). inl (omega (arith, le, high)))
@@ -28,16 +29,16 @@ not_in_log p n t le h = look (slice_get p.log n) refl (sym (has_at p n t) ∙ h)
     look (Some e) is h = inr (e, is, λ z. true≢false (sym (eq-eqb e.term t z) ∙ h))
 
 -- What is found, among entries that follow an index.
-pub record Differs (p : PersistentState) (after : ℕ) (es : List Entry) (d : Difference) : Type 0 where
+pub record Differs (p : PersistentState) (after : ℕ) (es : List LogEntry) (d : Difference) : Type 0 where
   pub k : ℕ
-  pub entry : Entry
+  pub entry : LogEntry
   pub after_is : d.after ≡ after + k
   pub entries_are : d.entries ≡ drop k es
   pub there : slice_get es k ≡ Some entry
-  pub same : (j : ℕ) (e : Entry) → j < k → slice_get es j ≡ Some e → has_term p (suc (after + j)) e.term ≡ true
+  pub same : (j : ℕ) (e : LogEntry) → j < k → slice_get es j ≡ Some e → has_term p (suc (after + j)) e.term ≡ true
   pub differs : has_term p (suc (after + k)) entry.term ≡ false
 
-pub differs_at : (p : PersistentState) (after : ℕ) (es : List Entry) (d : Difference) → difference (term_at p) after es ≡ Some d → Differs p after es d
+pub differs_at : (p : PersistentState) (after : ℕ) (es : List LogEntry) (d : Difference) → difference (term_at p) after es ≡ Some d → Differs p after es d
 differs_at p after [] d h = absurd (cc)
 differs_at p after (e ∷ es) d h = ⊎_elim
     (λ (z : has_term p (suc after) e.term ≡ true).
@@ -63,11 +64,11 @@ differs_at p after (e ∷ es) d h = ⊎_elim
     })
     (cases_Bool (has_term p (suc after) e.term))
   where
-    later : (x : Differs p (suc after) es d) → (j : ℕ) (f : Entry) → j < suc x.k → slice_get (e ∷ es) j ≡ Some f → has_term p (suc after) e.term ≡ true → has_term p (suc (after + j)) f.term ≡ true
+    later : (x : Differs p (suc after) es d) → (j : ℕ) (f : LogEntry) → j < suc x.k → slice_get (e ∷ es) j ≡ Some f → has_term p (suc after) e.term ≡ true → has_term p (suc (after + j)) f.term ≡ true
     later x zero f less is z = rw (sym (same_Some e f is)) (subst (λ n. has_term p (suc n) e.term ≡ true) (omega arith) z)
     later x (suc j) f less is z = subst (λ n. has_term p (suc n) f.term ≡ true) (omega arith) (x.same j f (omega (arith, less)) is)
 
-none_differs : (p : PersistentState) (after : ℕ) (es : List Entry) → difference (term_at p) after es ≡ None → (k : ℕ) (e : Entry) → slice_get es k ≡ Some e → has_term p (suc (after + k)) e.term ≡ true
+none_differs : (p : PersistentState) (after : ℕ) (es : List LogEntry) → difference (term_at p) after es ≡ None → (k : ℕ) (e : LogEntry) → slice_get es k ≡ Some e → has_term p (suc (after + k)) e.term ≡ true
 none_differs p after [] h k e is = absurd (cc)
 none_differs p after (x ∷ es) h k e is = ⊎_elim
     (λ (z : has_term p (suc after) x.term ≡ true). at_place k is z (λ j w. none_differs p (suc after) es (rw z at h) j e w))
@@ -81,14 +82,14 @@ none_differs p after (x ∷ es) h k e is = ⊎_elim
 -- ---- logs that have the terms of entries
 
 -- after a replacement from the first entry that differs the log has the terms of all
-pub replaced_terms : (l es after : List Entry) (q : ℕ) (r : Replaces l q es after) → HasTerms after q es (length es)
+pub replaced_terms : (l es after : List LogEntry) (q : ℕ) (r : Replaces l q es after) → HasTerms after q es (length es)
 replaced_terms l es after q r k e less is = ⊎_elim
     (λ (low : k < r.kept). let x = r.same k e low is in (x.0, replaced_low l after q es r (q + k) (omega (arith, low)) ∙ x.1, x.2))
     (λ (high : r.kept ≤ k). (e, ap (slice_get after) (omega (arith, high)) ∙ replaced_high l after q es r (k - r.kept) ∙ ap (slice_get es) (omega (arith, high)) ∙ is, refl))
     (cases_lt k r.kept)
 
 -- such a log reaches as far as the entries do
-pub reaches : (log es : List Entry) (q : ℕ) → HasTerms log q es (length es) → q ≤ length log → q + length es ≤ length log
+pub reaches : (log es : List LogEntry) (q : ℕ) → HasTerms log q es (length es) → q ≤ length log → q + length es ≤ length log
 reaches log [] q terms fits = omega (arith, fits)
 reaches log (e ∷ es) q terms fits =
     let last = has_place (e ∷ es) (length es) (omega arith) in
@@ -98,7 +99,7 @@ reaches log (e ∷ es) q terms fits =
 -- ---- the difference that is found replaces the log as the facts say
 
 -- The index that the entries follow is q entries after the base.
-pub replacing : (p : PersistentState) (q : ℕ) (es : List Entry) (d : Difference) → q ≤ length p.log → difference (term_at p) (p.base + q) es ≡ Some d → Replaces p.log q es (take (d.after - p.base) p.log ++ d.entries)
+pub replacing : (p : PersistentState) (q : ℕ) (es : List LogEntry) (d : Difference) → q ≤ length p.log → difference (term_at p) (p.base + q) es ≡ Some d → Replaces p.log q es (take (d.after - p.base) p.log ++ d.entries)
 replacing p q es d fits h =
     let x = differs_at p (p.base + q) es d h in
     record {
@@ -110,12 +111,12 @@ replacing p q es d fits h =
       result = ap₂ (λ n l. take n p.log ++ l) (omega (arith, x.after_is)) x.entries_are;
     }
   where
-    far : (k : ℕ) → ((j : ℕ) (e : Entry) → j < k → slice_get es j ≡ Some e → has_term p (suc (p.base + q + j)) e.term ≡ true) → ((j : ℕ) → j < k → (e : Entry) × (slice_get es j ≡ Some e)) → q + k ≤ length p.log
+    far : (k : ℕ) → ((j : ℕ) (e : LogEntry) → j < k → slice_get es j ≡ Some e → has_term p (suc (p.base + q + j)) e.term ≡ true) → ((j : ℕ) → j < k → (e : LogEntry) × (slice_get es j ≡ Some e)) → q + k ≤ length p.log
     far zero same there = omega (arith, fits)
     far (suc k) same there =
         let e = there k (omega arith) in
         let x = in_log p (q + k) e.0.term (subst (λ n. has_term p (suc n) e.0.term ≡ true) (omega arith) (same k e.0 (omega arith) e.1)) in
         let z = slice_get_within p.log (q + k) x.0 x.1 in omega (arith, z)
 
-pub none_replaced : (p : PersistentState) (q : ℕ) (es : List Entry) → difference (term_at p) (p.base + q) es ≡ None → HasTerms p.log q es (length es)
+pub none_replaced : (p : PersistentState) (q : ℕ) (es : List LogEntry) → difference (term_at p) (p.base + q) es ≡ None → HasTerms p.log q es (length es)
 none_replaced p q es h k e less is = in_log p (q + k) e.term (subst (λ n. has_term p (suc n) e.term ≡ true) (omega arith) (none_differs p (p.base + q) es h k e is))

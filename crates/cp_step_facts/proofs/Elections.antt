@@ -8,18 +8,20 @@ use Rattle.cp_safety.specs.Tracking.{untracked, Counts, WinsByVotes, WinsAlone}
 use Rattle.cp_step.specs.declared.ballot.Ballot.{Ballot}
 use Rattle.cp_step.specs.declared.role.Role.TheVariants.{PreCandidate, Candidate, Leader}
 use Rattle.cp_step.specs.Spelling.{empty_entry}
-use Rattle.cp_step.specs.Persistent.{PersistentState, last_index, log_end, members, is_member, others, is_quorum}
+use Rattle.cp_store_state.specs.Persistent.{PersistentState, last, with_ballot}
+use Rattle.cp_step.specs.Persistent.{log_end, members, is_member, others, is_quorum}
 use Rattle.cp_step.specs.Volatile.{VolatileState, has_voted, no_votes, new_peer}
 use Rattle.cp_step.specs.Local.{Vote, does, send, is_leader, is_candidate, is_pre_candidate}
 use Rattle.cp_step.specs.Leadership.{leading, takes_leadership}
 use Rattle.cp_step.specs.PreVotes.{with_vote, has_quorum, becomes_candidate, counts_prevote, on_prevote_reply}
 use Rattle.cp_step.specs.Votes.{counts_vote, on_vote_reply}
+use Rattle.cp_step.proofs.SpellingLaws.{empty_sets_none}
 use Rattle.cp_step_facts.specs.Seen.{seen_role, tracked_member}
 use Rattle.cp_step_facts.specs.Soundness.{IsPlaced}
 use Rattle.cp_step_facts.proofs.Basics.{either, candidate_is, pre_candidate_is, seen_leader, set_index, same_everywhere, all_mapped}
 use Rattle.cp_step_facts.proofs.Knowing.{ends, members_are, quorum_is}
 use Rattle.cp_step_facts.proofs.Turns.{Turn, got, here, core, Truth, Good}
-use Rattle.cp_step_facts.proofs.Quiet.{with_ballot, rests, quiet_low, quiet_same, silent}
+use Rattle.cp_step_facts.proofs.Quiet.{rests, quiet_low, quiet_same, silent}
 use Rattle.cp_step_facts.proofs.Votes.{adopts_or}
 use Rattle.cp_step_facts.proofs.Commits.{created, Creates, creates_good}
 
@@ -34,7 +36,7 @@ alone me (x ∷ y ∷ ms) e h = absurd (cc)
 -- `w` is the state with the votes of the pre-election
 candidate_good : (t : Turn) (w : VolatileState) → w.commit ≡ t.v.commit → w.received ≡ t.v.received → Good t (becomes_candidate t.me t.p w)
 candidate_good t w commit received =
-    let p' = with_ballot t.p (suc t.p.term) t.me in
+    let p' = with_ballot (suc t.p.term) t.me t.p in
     let v' : VolatileState = record w { role = Candidate; leader = 0; votes = no_votes } in
     let a = t.sound.above_base in
     let b = t.sound.within in
@@ -89,12 +91,12 @@ leadership t w term commit received positive up keeps wins = record {
   up = up;
   keeps = keeps;
   elected = λ v'. inr (wins v');
-  matched = λ v' f. inl (same_everywhere (λ x. x.matched ≡ 0) (new_peer 1) (new_peer (suc (last_index t.p))) refl refl f);
-  placed = λ f. same_everywhere (IsPlaced (suc (last_index t.p)) (length t.p.snapshot)) (new_peer 1) (new_peer (suc (last_index t.p)))
+  matched = λ v' f. inl (same_everywhere (λ x. x.matched ≡ 0) (new_peer 1) (new_peer (suc (last t.p))) refl refl f);
+  placed = λ f. same_everywhere (IsPlaced (suc (last t.p)) (length t.p.snapshot)) (new_peer 1) (new_peer (suc (last t.p)))
       (record { first = omega arith; next = omega arith; matched = omega arith; offset = omega arith })
       (record { first = omega arith; next = omega arith; matched = omega arith; offset = omega arith })
       f;
-  change = λ v' ms h. absurd (cc);
+  change = λ v' ms h. absurd (let z : None ≡ Some ms = sym empty_sets_none ∙ h in cc);
 }
 
 -- the yes that came is counted, or one that was counted before

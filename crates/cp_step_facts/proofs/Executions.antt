@@ -12,8 +12,8 @@ use Rattle.cp_safety.specs.Chunks.{ChunkedMember, ChunkedCluster, ChunkedStep, W
 use Rattle.cp_safety.proofs.Lists.{contains_map, contains_unmap}
 use Rattle.cp_safety.proofs.Chunks.{chunked_executions}
 use Rattle.cp_safety.proofs.Laws.{one_office}
-use Rattle.cp_step.specs.Spelling.{Configuration}
-use Rattle.cp_step.specs.Persistent.{PersistentState}
+use Rattle.cp_parts.specs.declared.config.Config.{Config}
+use Rattle.cp_store_state.specs.Persistent.{PersistentState}
 use Rattle.cp_step.specs.Volatile.{VolatileState, new_peer, started}
 use Rattle.cp_step.specs.Local.{Event, Tick, Got, Propose, ChangeMembers, Read}
 use Rattle.cp_step_facts.specs.Seen.{seen_role, chunked_member, wire, sent_wire, came_by, reader}
@@ -30,7 +30,7 @@ start_is p v clock = λ i. record {
     vote = p.vote;
     base = p.base;
     base_term = p.base_term;
-    base_members = p.base_configuration.members;
+    base_members = p.base_config.members;
     log = p.log;
     commit = p.base;
     role = tracking.Follower;
@@ -49,11 +49,11 @@ abbrev wired : Mail → Wire
 wired m = wire m.from m.to m.body
 
 -- what an execution shows beside
-record Shown (first : Configuration) (acts : List Act) : Type 0 where
+record Shown (first : Config) (acts : List Act) : Type 0 where
   execution : LocalExecution first acts
   sent : (m : Mail) → Contains (local_after first acts).sent m → Contains (chunked_after first.members (seen_acts first acts)).sent (wired m)
 
-module _ (first : Configuration) (a : Act) (before : List Act) (old : Shown first before) (ok : IsAllowed (local_after first before) a) where
+module _ (first : Config) (a : Act) (before : List Act) (old : Shown first before) (ok : IsAllowed (local_after first before) a) where
   abbrev w : LocalCluster
   w = local_after first before
 
@@ -122,7 +122,7 @@ module _ (first : Configuration) (a : Act) (before : List Act) (old : Shown firs
     sent = sent_after;
   }
 
-shown : (first : Configuration) (acts : List Act) → IsExecution first acts → Shown first acts
+shown : (first : Config) (acts : List Act) → IsExecution first acts → Shown first acts
 shown first [] is = record {
   execution = record {
     meets = tt;

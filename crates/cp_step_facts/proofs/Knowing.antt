@@ -1,8 +1,9 @@
 -- What the words on stored state say: the terms that are known, the end of the log, the configuration.
-use Rattle.std.proofs.Common.{◌==◌, ◌≡◌, ℕ, zero, suc, ◌+◌, ◌-◌, ◌*◌, ◌<◌, ◌≤◌, inl, inr, ⊎_elim, Bool, true, false, List, [], ◌∷◌, length, refl, ap, sym, ◌∙◌, arith, subst, Option, Some, None, unwrap_or, slice_get, nat_lt, nat_le, le_refl, true≢false, ltb-true, ltb-false, if◌then◌else◌, option_map, count_by}
-use Rattle.std.proofs.lemmas.Bool.{cases_Bool, eq-eqb, eqb-true, leb-true, le-ltb}
+use Rattle.std.proofs.Common.{◌==◌, ◌≡◌, ◌≢◌, ℕ, suc, ◌+◌, ◌-◌, ◌*◌, ◌<◌, ◌≤◌, inl, inr, ⊎_elim, Bool, true, false, List, [], ◌∷◌, length, refl, ap, sym, ◌∙◌, arith, subst, Option, Some, None, unwrap_or, slice_get, nat_lt, nat_le, le_refl, true≢false, ltb-true, if◌then◌else◌, option_map, count_by}
+use Rattle.std.proofs.lemmas.Bool.{cases_Bool, eq-eqb, eqb-true, leb-true, ne_eqb, lt-ltb}
 use Rattle.std.proofs.lemmas.Option.{slice_get_within}
-use Rattle.cp_rules.specs.Entries.{Entry, members_in}
+use Rattle.cp_parts.specs.declared.log_entry.LogEntry.{LogEntry}
+use Rattle.cp_rules.specs.Entries.{members_in}
 use Rattle.cp_rules.specs.Configurations as lists
 use Rattle.cp_rules.specs.Configurations.{HasQuorum, members_or}
 use Rattle.cp_rules.specs.Facts.{KnowsTerm, LogEndsAt, configuration_of}
@@ -10,8 +11,13 @@ use Rattle.cp_rules.specs.Logs.{IsUpToDate}
 use Rattle.cp_agreement.proofs.Logs.{has_place}
 use Rattle.cp_safety.specs.Tracking.{untracked}
 use Rattle.cp_step.specs.declared.log_end.LogEnd.{LogEnd}
-use Rattle.cp_step.specs.Spelling.{Configuration, configuration_in, plan_in}
-use Rattle.cp_step.specs.Persistent.{PersistentState, last_index, term_after, is_term, has_term, known_term, log_end, configuration_after, members, is_quorum}
+use Rattle.cp_parts.specs.declared.config.Config.{Config}
+use Rattle.cp_parts.specs.Configs.{config_in}
+use Rattle.cp_store_state.specs.Persistent as stored
+use Rattle.cp_store_state.specs.Persistent.{PersistentState, last, entry_at, term_at}
+use Rattle.cp_store_state.specs.Configurations.{config_or, config_after}
+use Rattle.cp_step.proofs.SpellingLaws.{config_members}
+use Rattle.cp_step.specs.Persistent.{is_term, has_term, known_term, log_end, members, is_quorum}
 use Rattle.cp_step.specs.Volatile.{VolatileState}
 use Rattle.cp_step.specs.PreVotes.{is_up_to_date}
 use Rattle.cp_step_facts.specs.Seen.{tracked_member}
@@ -19,64 +25,79 @@ use Rattle.cp_step_facts.proofs.Basics.{either}
 
 -- ---- terms
 
+-- so many entries after the base
+pub term_behind : (p : PersistentState) (n : ℕ) → term_at p (suc (p.base + n)) ≡ option_map (λ e. e.term) (slice_get p.log n)
+term_behind p n =
+    let a : (suc (p.base + n) == p.base) ≡ false = ne_eqb (suc (p.base + n)) p.base (λ z. omega (arith, z)) in
+    let b : nat_lt p.base (suc (p.base + n)) ≡ true = lt-ltb p.base (suc (p.base + n)) (omega arith) in
+    let c : suc (p.base + n) - p.base - 1 ≡ n = omega arith in
+    rw (a, b, c) refl
+
 -- a term that the log has is known
 pub has_known : (p : PersistentState) (v : VolatileState) (i t : ℕ) → has_term p i t ≡ true → KnowsTerm (untracked (tracked_member p v)) i t
 has_known p v i t h = ⊎_elim
-    (λ (e : nat_lt i p.base ≡ true). absurd (true≢false (sym h ∙ ap (λ c. is_term t (if c then None else term_after p.base_term p.log (i - p.base))) e)))
-    (λ (e : nat_lt i p.base ≡ false). let le : p.base ≤ i = ltb-false i p.base e in
-    at_place (i - p.base) refl le (sym (ap (λ c. is_term t (if c then None else term_after p.base_term p.log (i - p.base))) e) ∙ h))
-    (cases_Bool (nat_lt i p.base))
+    (λ (e : (i == p.base) ≡ true). let z : (p.base_term == t) ≡ true = sym (ap (λ c. is_term t (if c then Some p.base_term else option_map (λ x. x.term) (entry_at p i))) e) ∙ h in
+    inl (eqb-true i p.base e, sym (eqb-true p.base_term t z)))
+    (λ (e : (i == p.base) ≡ false). ⊎_elim
+    (λ (f : nat_lt p.base i ≡ true). in_log (i - p.base - 1) (ltb-true p.base i f) refl (slice_get p.log (i - p.base - 1)) refl
+    (sym (ap (λ c. is_term t (option_map (λ x. x.term) (if c then slice_get p.log (i - p.base - 1) else None))) f) ∙ behind e))
+    (λ (f : nat_lt p.base i ≡ false). absurd (true≢false (sym (behind e) ∙ ap (λ c. is_term t (option_map (λ x. x.term) (if c then slice_get p.log (i - p.base - 1) else None))) f)))
+    (cases_Bool (nat_lt p.base i)))
+    (cases_Bool (i == p.base))
   where
-    in_log : (k : ℕ) → i - p.base ≡ suc k → p.base ≤ i → (o : Option Entry) → slice_get p.log k ≡ o → is_term t (option_map (λ e. e.term) o) ≡ true → KnowsTerm (untracked (tracked_member p v)) i t
-    in_log k e le None is h = absurd (true≢false (sym h))
-    in_log k e le (Some x) is h = inr (k, omega (arith, e, le), (x, is, eqb-true x.term t h))
+    behind : (i == p.base) ≡ false → is_term t (option_map (λ x. x.term) (entry_at p i)) ≡ true
+    behind e = sym (ap (λ c. is_term t (if c then Some p.base_term else option_map (λ x. x.term) (entry_at p i))) e) ∙ h
 
-    at_place : (k : ℕ) → i - p.base ≡ k → p.base ≤ i → is_term t (term_after p.base_term p.log k) ≡ true → KnowsTerm (untracked (tracked_member p v)) i t
-    at_place zero e le h = inl (omega (arith, e, le), sym (eqb-true p.base_term t h))
-    at_place (suc k) e le h = in_log k e le (slice_get p.log k) refl h
+    in_log : (k : ℕ) → p.base < i → k ≡ i - p.base - 1 → (o : Option LogEntry) → slice_get p.log k ≡ o → is_term t (option_map (λ e. e.term) o) ≡ true → KnowsTerm (untracked (tracked_member p v)) i t
+    in_log k less e None is h = absurd (true≢false (sym h))
+    in_log k less e (Some x) is h = inr (k, omega (arith, e, less), (x, is, eqb-true x.term t h))
 
 -- what the log has after the base
 pub has_at : (p : PersistentState) (n t : ℕ) → has_term p (suc (p.base + n)) t ≡ is_term t (option_map (λ e. e.term) (slice_get p.log n))
-has_at p n t =
-    let a : nat_lt (suc (p.base + n)) p.base ≡ false = le-ltb (suc (p.base + n)) p.base (omega arith) in
-    let b : suc (p.base + n) - p.base ≡ suc n = omega arith in
-    rw (a, b) refl
+has_at p n t = ap (is_term t) (term_behind p n)
+
+-- the term of an entry above the base, as a snapshot asks for it
+pub entry_has : (p : PersistentState) (i t : ℕ) → p.base < i → stored.is_term t (entry_at p i) ≡ has_term p i t
+entry_has p i t less =
+    let a : (i == p.base) ≡ false = ne_eqb i p.base (λ z. omega (arith, z, less)) in
+    same (entry_at p i) ∙ sym (ap (λ c. is_term t (if c then Some p.base_term else option_map (λ x. x.term) (entry_at p i))) a)
+  where
+    same : (o : Option LogEntry) → stored.is_term t o ≡ is_term t (option_map (λ x. x.term) o)
+    same None = refl
+    same (Some x) = refl
 
 -- and the other way round
 pub known_has : (p : PersistentState) (v : VolatileState) (i t : ℕ) → KnowsTerm (untracked (tracked_member p v)) i t → has_term p i t ≡ true
 known_has p v i t k = ⊎_elim
     (λ (z : (i ≡ p.base) × (t ≡ p.base_term)).
-    let a : nat_lt p.base p.base ≡ false = le-ltb p.base p.base (le_refl p.base) in
-    let b : p.base - p.base ≡ 0 = omega arith in
-    let c : has_term p p.base p.base_term ≡ true = rw (a, b) (eq-eqb p.base_term p.base_term refl) in
+    let a : (p.base == p.base) ≡ true = eq-eqb p.base p.base refl in
+    let c : has_term p p.base p.base_term ≡ true = ap (λ c. is_term p.base_term (if c then Some p.base_term else option_map (λ x. x.term) (entry_at p p.base))) a ∙ eq-eqb p.base_term p.base_term refl in
     rw (z.0, z.1) c)
-    (λ (z : (k : ℕ) × (i ≡ suc (p.base + k)) × ((e : Entry) × (slice_get p.log k ≡ Some e) × (e.term ≡ t))). rw z.1 (has_at p z.0 t ∙ (rw z.2.1 (eq-eqb z.2.0.term t z.2.2))))
+    (λ (z : (k : ℕ) × (i ≡ suc (p.base + k)) × ((e : LogEntry) × (slice_get p.log k ≡ Some e) × (e.term ≡ t))). rw z.1 (has_at p z.0 t ∙ (rw z.2.1 (eq-eqb z.2.0.term t z.2.2))))
     k
 
-pub known_within : (p : PersistentState) (v : VolatileState) (i t : ℕ) → KnowsTerm (untracked (tracked_member p v)) i t → (p.base ≤ i) × (i ≤ last_index p)
+pub known_within : (p : PersistentState) (v : VolatileState) (i t : ℕ) → KnowsTerm (untracked (tracked_member p v)) i t → (p.base ≤ i) × (i ≤ last p)
 known_within p v i t k = ⊎_elim
     (λ z. let e = z.0 in (omega (arith, e), omega (arith, e)))
     (λ z. let e = z.1 in let less = slice_get_within p.log z.0 z.2.0 z.2.1 in (omega (arith, e), omega (arith, e, less)))
     k
 
 -- the term of an index from the base to the last one
-pub knows_has : (p : PersistentState) (i : ℕ) → p.base ≤ i → i ≤ last_index p → has_term p i (known_term p i) ≡ true
-knows_has p i low high = either (λ o. is_term (unwrap_or o 0) o ≡ true) (nat_lt i p.base) None (term_after p.base_term p.log (i - p.base))
-    (λ h. absurd (let z : i < p.base = ltb-true i p.base h in omega (arith, low, z)))
-    (λ h. at_place (i - p.base) (omega (arith, low, high)))
-  where
-    same : (n : ℕ) → (n == n) ≡ true
-    same n = eq-eqb n n refl
+pub knows_has : (p : PersistentState) (i : ℕ) → p.base ≤ i → i ≤ last p → has_term p i (known_term p i) ≡ true
+knows_has p i low high = either (λ o. is_term (unwrap_or o 0) o ≡ true) (i == p.base) (Some p.base_term) (option_map (λ x. x.term) (entry_at p i))
+    (λ h. eq-eqb p.base_term p.base_term refl)
+    (λ h.
+    let ne : i ≢ p.base = (λ z. true≢false (sym (eq-eqb i p.base z) ∙ h)) in
+    let less : p.base < i = omega (arith, ne, low) in
+    let x = has_place p.log (i - p.base - 1) (omega (arith, less, high)) in
+    let there : entry_at p i ≡ Some x.0 = ap (λ c. if c then slice_get p.log (i - p.base - 1) else None) (lt-ltb p.base i less) ∙ x.1 in
+    ap (λ (o : Option LogEntry). is_term (unwrap_or (option_map (λ y. y.term) o) 0) (option_map (λ y. y.term) o)) there ∙ eq-eqb x.0.term x.0.term refl)
 
-    at_place : (k : ℕ) → k ≤ length p.log → is_term (unwrap_or (term_after p.base_term p.log k) 0) (term_after p.base_term p.log k) ≡ true
-    at_place zero le = same p.base_term
-    at_place (suc k) le = let x = has_place p.log k le in rw x.1 (same x.0.term)
-
-pub knows_at : (p : PersistentState) (v : VolatileState) (i : ℕ) → p.base ≤ i → i ≤ last_index p → KnowsTerm (untracked (tracked_member p v)) i (known_term p i)
+pub knows_at : (p : PersistentState) (v : VolatileState) (i : ℕ) → p.base ≤ i → i ≤ last p → KnowsTerm (untracked (tracked_member p v)) i (known_term p i)
 knows_at p v i low high = has_known p v i (known_term p i) (knows_has p i low high)
 
 pub ends : (p : PersistentState) (v : VolatileState) → LogEndsAt (untracked (tracked_member p v)) (log_end p).term (log_end p).index
-ends p v = (refl, knows_at p v (last_index p) (omega arith) (le_refl (last_index p)))
+ends p v = (refl, knows_at p v (last p) (omega arith) (le_refl (last p)))
 
 pub up_to_date : (a b : LogEnd) → is_up_to_date a b ≡ true → IsUpToDate a.term a.index b.term b.index
 up_to_date a b h = ⊎_elim
@@ -93,20 +114,21 @@ up_to_date a b h = ⊎_elim
 -- ---- configurations
 
 -- an entry's configuration has the members that the entry spells
-one_configured : (before : Configuration) (i : ℕ) (body : List ℕ) → (unwrap_or (configuration_in i body) before).members ≡ members_or (members_in body) before.members
-one_configured before i body = look (members_in body)
+one_configured : (before : Config) (at : ℕ) (bytes : List ℕ) → (config_or (config_in at bytes) before).members ≡ members_or (members_in bytes) before.members
+one_configured before at bytes = look (config_in at bytes) ∙ ap (λ o. members_or o before.members) (config_members at bytes)
   where
-    look : (o : Option (List ℕ)) → (unwrap_or (option_map (λ ms. let c : Configuration = record { index = i; plan = plan_in body; members = ms } in c) o) before).members ≡ members_or o before.members
+    look : (o : Option Config) → (config_or o before).members ≡ members_or (option_map (λ (c : Config). c.members) o) before.members
     look None = refl
-    look (Some ms) = refl
+    look (Some c) = refl
 
-pub configured_members : (before : Configuration) (i : ℕ) (log : List Entry) → (configuration_after before i log).members ≡ lists.configuration_after before.members log
-configured_members before i [] = refl
-configured_members before i (e ∷ log) =
-    configured_members (unwrap_or (configuration_in (suc i) e.body) before) (suc i) log ∙ ap (λ m. lists.configuration_after m log) (one_configured before (suc i) e.body)
+pub configured_members : (before : Config) (at : ℕ) (log : List LogEntry) → (config_after before at log).members ≡ lists.configuration_after before.members log
+unfolding config_after
+configured_members before at [] = refl
+configured_members before at (e ∷ log) =
+    configured_members (config_or (config_in (at + 1) e.bytes) before) (at + 1) log ∙ ap (λ m. lists.configuration_after m log) (one_configured before (at + 1) e.bytes)
 
 pub members_are : (p : PersistentState) (v : VolatileState) → members p ≡ configuration_of (untracked (tracked_member p v))
-members_are p v = configured_members p.base_configuration p.base p.log
+members_are p v = configured_members p.base_config p.base p.log
 
 pub quorum_is : (P : ℕ → Type 0) (ms ns : List ℕ) (test : ℕ → Bool) → ms ≡ ns → is_quorum ms test ≡ true → ((m : ℕ) → test m ≡ true → P m) → HasQuorum ns P
 quorum_is P ms ns test e h each = subst (λ l. HasQuorum l P) e (test, ltb-true (length ms) (2 * count_by test ms) h, each)

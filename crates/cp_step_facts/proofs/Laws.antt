@@ -8,7 +8,8 @@ use Rattle.cp_safety.specs.Tracking.{TrackedCluster, TrackedFacts, SendsTruly}
 use Rattle.cp_safety.specs.Chunks as chunks
 use Rattle.cp_safety.specs.Chunks.{ChunkedMember, ChunkedCluster, ChunkedStep, ChunkedFacts, Wire, AsItIs, Chunk, seen_got, seen_sent, seen_step, Joins, SendsChunk, SameSnapshot, NewSnapshot}
 use Rattle.cp_safety.proofs.Lists.{contains_unmap}
-use Rattle.cp_step.specs.Persistent.{PersistentState, after_part}
+use Rattle.cp_store_state.specs.Persistent.{PersistentState}
+use Rattle.cp_step.specs.Persistent.{after_part}
 use Rattle.cp_step.specs.Volatile.{Received, VolatileState, started}
 use Rattle.cp_step.specs.Local.{Body, PreVote, PreVoteReply, Vote, VoteReply, Append, AppendReply, Snapshot, SnapshotReply, Confirm, Confirmed, Sent, Event, LocalStep}
 use Rattle.cp_step.specs.Snapshots.{joined, received_of}

@@ -6,7 +6,8 @@ use Rattle.cp_safety.specs.Tracking as tracking
 use Rattle.cp_safety.specs.Tracking.{Rests, Counts, StaysCandidate, BecomesCandidate, WinsByVotes, WinsAlone, MatchedUpto, TrackedFacts, SendsTruly}
 use Rattle.cp_step.specs.declared.ballot.Ballot.{Ballot}
 use Rattle.cp_step.specs.declared.role.Role.TheVariants.{Follower, Candidate, Leader}
-use Rattle.cp_step.specs.Persistent.{PersistentState, Part, StatePart, ballot, last_index, after_part, ballot_part}
+use Rattle.cp_store_state.specs.Persistent.{PersistentState, last, with_ballot}
+use Rattle.cp_step.specs.Persistent.{Part, StatePart, ballot, after_part, ballot_part}
 use Rattle.cp_step.specs.Volatile.{VolatileState, has_voted, peer}
 use Rattle.cp_step.specs.Local.{Sent, does, is_leader}
 use Rattle.cp_step.specs.Terms.{adopted, steps_down, steps_down_for, adopts}
@@ -16,12 +17,9 @@ use Rattle.cp_step_facts.proofs.Basics.{either, leader_is, not_leader, seen_lead
 use Rattle.cp_step_facts.proofs.Turns.{Turn, here, core, Truth, Receives, Left, Good}
 
 -- what a ballot part leaves
-abbrev pub with_ballot : PersistentState → ℕ → ℕ → PersistentState
-with_ballot p term vote = record p { term = term; vote = vote }
-
-pub after_ballot : (p : PersistentState) (b : Ballot) → after_part (ballot_part p b) p ≡ with_ballot p b.term b.vote
-after_ballot p b = either (λ part. after_part part p ≡ with_ballot p b.term b.vote) ((p.term == b.term) && (p.vote == b.vote)) None (Some (StatePart b))
-    (λ e. let x = and_parts (p.term == b.term) (p.vote == b.vote) e in ap₂ (λ t x. with_ballot p t x) (eqb-true p.term b.term x.0) (eqb-true p.vote b.vote x.1))
+pub after_ballot : (p : PersistentState) (b : Ballot) → after_part (ballot_part p b) p ≡ with_ballot b.term b.vote p
+after_ballot p b = either (λ part. after_part part p ≡ with_ballot b.term b.vote p) ((p.term == b.term) && (p.vote == b.vote)) None (Some (StatePart b))
+    (λ e. let x = and_parts (p.term == b.term) (p.vote == b.vote) e in ap₂ (λ t x. with_ballot t x p) (eqb-true p.term b.term x.0) (eqb-true p.vote b.vote x.1))
     (λ e. refl)
 
 -- ---- adopting a term
@@ -96,7 +94,7 @@ rests t leads p v log up vote above commit calm = record {
 -- ---- steps that write a ballot or nothing
 
 -- a role that neither leads nor is elected
-pub sound_low : (t : Turn) (term vote : ℕ) (v : VolatileState) → v.role ≢ Leader → v.role ≢ Candidate → v.commit ≡ t.v.commit → IsSound t.me (with_ballot t.p term vote) v
+pub sound_low : (t : Turn) (term vote : ℕ) (v : VolatileState) → v.role ≢ Leader → v.role ≢ Candidate → v.commit ≡ t.v.commit → IsSound t.me (with_ballot term vote t.p) v
 sound_low t term vote v leads_not not_candidate commit = let a = t.sound.above_base in let b = t.sound.within in record {
   named = t.sound.named;
   above_base = omega (arith, a, commit);
@@ -109,9 +107,9 @@ sound_low t term vote v leads_not not_candidate commit = let a = t.sound.above_b
 }
 
 pub quiet_low : (t : Turn) (term vote : ℕ) (v : VolatileState) (sends : List Sent) → t.p.term ≤ term → (t.p.term ≡ term → t.p.vote ≢ 0 → vote ≡ t.p.vote) → v.role ≢ Leader → v.role ≢ Candidate → v.commit ≡ t.v.commit
-    → Receives t.v t.came v → All (Truth t false (with_ballot t.p term vote) v) sends → Left t (is_leader v.role) (with_ballot t.p term vote) v sends
-quiet_low t term vote v sends up keeps leads_not not_candidate commit receives says = subst (λ b. Left t b (with_ballot t.p term vote) v sends) (sym (not_leader v.role leads_not)) (record {
-  facts = rests t false (with_ballot t.p term vote) v (inl ((refl, refl, refl), refl)) up keeps (let a = t.sound.above_base in omega (arith, a, commit)) commit (calm_low t (with_ballot t.p term vote) v leads_not not_candidate);
+    → Receives t.v t.came v → All (Truth t false (with_ballot term vote t.p) v) sends → Left t (is_leader v.role) (with_ballot term vote t.p) v sends
+quiet_low t term vote v sends up keeps leads_not not_candidate commit receives says = subst (λ b. Left t b (with_ballot term vote t.p) v sends) (sym (not_leader v.role leads_not)) (record {
+  facts = rests t false (with_ballot term vote t.p) v (inl ((refl, refl, refl), refl)) up keeps (let a = t.sound.above_base in omega (arith, a, commit)) commit (calm_low t (with_ballot term vote t.p) v leads_not not_candidate);
   says = says;
   sound = sound_low t term vote v leads_not not_candidate commit;
   snapshot = inl (refl, refl, refl, refl);
@@ -125,7 +123,7 @@ pub record SameRole (t : Turn) (v : VolatileState) : Type 0 where
   pub commit : v.commit ≡ t.v.commit
   pub received : v.received ≡ t.v.received
 
-pub sound_same : (t : Turn) (vote : ℕ) (v : VolatileState) → (t.p.vote ≢ 0 → vote ≡ t.p.vote) → SameRole t v → IsSound t.me (with_ballot t.p t.p.term vote) v
+pub sound_same : (t : Turn) (vote : ℕ) (v : VolatileState) → (t.p.vote ≢ 0 → vote ≡ t.p.vote) → SameRole t v → IsSound t.me (with_ballot t.p.term vote t.p) v
 sound_same t vote v keeps same = let a = t.sound.above_base in let b = t.sound.within in record {
   named = t.sound.named;
   above_base = omega (arith, a, same.commit);
@@ -134,15 +132,15 @@ sound_same t vote v keeps same = let a = t.sound.above_base in let b = t.sound.w
   voted = λ h. let s = t.sound.voted (sym same.role ∙ h) in keeps (λ e. t.sound.named (sym s ∙ e)) ∙ s;
   campaigns = λ h. t.sound.campaigns (sym same.role ∙ h);
   leads = λ h. t.sound.leads (sym same.role ∙ h);
-  peers = λ h f. subst (λ l. IsPlaced (last_index t.p) (length t.p.snapshot) (peer l f)) (sym same.peers) (t.sound.peers (sym same.role ∙ h) f);
+  peers = λ h f. subst (λ l. IsPlaced (last t.p) (length t.p.snapshot) (peer l f)) (sym same.peers) (t.sound.peers (sym same.role ∙ h) f);
 }
 
 pub quiet_same : (t : Turn) (vote : ℕ) (v : VolatileState) (sends : List Sent) → (t.p.vote ≢ 0 → vote ≡ t.p.vote) → SameRole t v
-    → ((f : ℕ) → has_voted v.votes f ≡ true → Counts (here t) (core t (is_leader v.role) (with_ballot t.p t.p.term vote) v) f)
-    → All (Truth t (is_leader v.role) (with_ballot t.p t.p.term vote) v) sends → Left t (is_leader v.role) (with_ballot t.p t.p.term vote) v sends
+    → ((f : ℕ) → has_voted v.votes f ≡ true → Counts (here t) (core t (is_leader v.role) (with_ballot t.p.term vote t.p) v) f)
+    → All (Truth t (is_leader v.role) (with_ballot t.p.term vote t.p) v) sends → Left t (is_leader v.role) (with_ballot t.p.term vote t.p) v sends
 quiet_same t vote v sends keeps same counted says = record {
-  facts = rests t (is_leader v.role) (with_ballot t.p t.p.term vote) v (inl ((refl, refl, refl), refl)) (le_refl t.p.term) (λ e. keeps) (let a = t.sound.above_base in omega (arith, a, same.commit)) same.commit
-      (calm_same t (with_ballot t.p t.p.term vote) v refl same.role (λ f. ap (λ l. (peer l f).matched) same.peers) counted);
+  facts = rests t (is_leader v.role) (with_ballot t.p.term vote t.p) v (inl ((refl, refl, refl), refl)) (le_refl t.p.term) (λ e. keeps) (let a = t.sound.above_base in omega (arith, a, same.commit)) same.commit
+      (calm_same t (with_ballot t.p.term vote t.p) v refl same.role (λ f. ap (λ l. (peer l f).matched) same.peers) counted);
   says = says;
   sound = sound_same t vote v keeps same;
   snapshot = inl (refl, refl, refl, refl);
@@ -160,25 +158,25 @@ pub silent : (t : Turn) → Good t (does None t.v [])
 silent t = nothing t [] (All-nil (Truth t (is_leader t.v.role) t.p t.v))
 
 pub adopts_good : (t : Turn) (term : ℕ) → t.p.term < term → Good t (adopts term t.p t.v)
-adopts_good t term low = quiet_low t term 0 (steps_down t.v) [] (omega (arith, low)) (λ e ne. absurd (omega (arith, low, e))) (λ h. cc) (λ h. cc) refl (inl refl) (All-nil (Truth t false (with_ballot t.p term 0) (steps_down t.v)))
+adopts_good t term low = quiet_low t term 0 (steps_down t.v) [] (omega (arith, low)) (λ e ne. absurd (omega (arith, low, e))) (λ h. cc) (λ h. cc) refl (inl refl) (All-nil (Truth t false (with_ballot term 0 t.p) (steps_down t.v)))
 
 -- A step that takes on a term and leaves log and commit; the role is Follower's, or stays with the term.
-pub takes_on : (t : Turn) (term vote : ℕ) (part : Option Part) (v : VolatileState) (sends : List Sent) → after_part part t.p ≡ with_ballot t.p (adopted term (ballot t.p)).term vote
+pub takes_on : (t : Turn) (term vote : ℕ) (part : Option Part) (v : VolatileState) (sends : List Sent) → after_part part t.p ≡ with_ballot (adopted term (ballot t.p)).term vote t.p
     → (t.p.term ≡ (adopted term (ballot t.p)).term → t.p.vote ≢ 0 → vote ≡ t.p.vote) → v.commit ≡ t.v.commit → Receives t.v t.came v
     → (v.role ≡ Follower) ⊎ ((t.p.term ≡ (adopted term (ballot t.p)).term) × SameRole t v × (v.votes ≡ t.v.votes))
-    → ((leads : Bool) → All (Truth t leads (with_ballot t.p (adopted term (ballot t.p)).term vote) v) sends) → Good t (does part v sends)
+    → ((leads : Bool) → All (Truth t leads (with_ballot (adopted term (ballot t.p)).term vote t.p) v) sends) → Good t (does part v sends)
 takes_on t term vote part v sends left keeps commit receives role says =
     let ad = adopting term t.p t.v in
     subst (λ (q : PersistentState). Left t (is_leader v.role) q v sends) (sym left) (⊎_elim
     (λ (f : v.role ≡ Follower). quiet_low t (adopted term (ballot t.p)).term vote v sends ad.up keeps (follower_or_leader v.role f) (follower_or_candidate v.role f) commit receives (says false))
     (λ (x : (t.p.term ≡ (adopted term (ballot t.p)).term) × SameRole t v × (v.votes ≡ t.v.votes)).
     let all = says (is_leader v.role) in
-    subst (λ (u : ℕ). Left t (is_leader v.role) (with_ballot t.p u vote) v sends) x.0 (quiet_same t vote v sends (keeps x.0) x.1 (λ f h. inl (ap (λ l. has_voted l f) (sym x.2) ∙ h)) (subst (λ (u : ℕ). All (Truth t (is_leader v.role) (with_ballot t.p u vote) v) sends) (sym x.0) all)))
+    subst (λ (u : ℕ). Left t (is_leader v.role) (with_ballot u vote t.p) v sends) x.0 (quiet_same t vote v sends (keeps x.0) x.1 (λ f h. inl (ap (λ l. has_voted l f) (sym x.2) ∙ h)) (subst (λ (u : ℕ). All (Truth t (is_leader v.role) (with_ballot u vote t.p) v) sends) (sym x.0) all)))
     role)
 
 -- the same, with the adopted ballot
 pub takes_ballot : (t : Turn) (term : ℕ) (v : VolatileState) (sends : List Sent) → v.commit ≡ t.v.commit → Receives t.v t.came v
     → (v.role ≡ Follower) ⊎ ((t.p.term ≡ (adopted term (ballot t.p)).term) × SameRole t v × (v.votes ≡ t.v.votes))
-    → ((leads : Bool) → All (Truth t leads (with_ballot t.p (adopted term (ballot t.p)).term (adopted term (ballot t.p)).vote) v) sends) → Good t (does (ballot_part t.p (adopted term (ballot t.p))) v sends)
+    → ((leads : Bool) → All (Truth t leads (with_ballot (adopted term (ballot t.p)).term (adopted term (ballot t.p)).vote t.p) v) sends) → Good t (does (ballot_part t.p (adopted term (ballot t.p))) v sends)
 takes_ballot t term v sends commit receives role says =
     takes_on t term (adopted term (ballot t.p)).vote (ballot_part t.p (adopted term (ballot t.p))) v sends (after_ballot t.p (adopted term (ballot t.p))) (λ e ne. (adopting term t.p t.v).vote e) commit receives role says

@@ -6,7 +6,8 @@ use Rattle.cp_rules.specs.Clusters as cluster
 use Rattle.cp_safety.specs.Tracking.{MatchedUpto, LeaderCommitsByMatch, SendsTruly}
 use Rattle.cp_step.specs.declared.peer.Peer.{Peer}
 use Rattle.cp_step.specs.declared.role.Role.TheVariants.{Candidate, Leader}
-use Rattle.cp_step.specs.Persistent.{last_index, members, is_member}
+use Rattle.cp_store_state.specs.Persistent.{last}
+use Rattle.cp_step.specs.Persistent.{members, is_member}
 use Rattle.cp_step.specs.Volatile.{VolatileState, peer, with_peer, new_peer}
 use Rattle.cp_step.specs.Local.{Sent, LocalStep, does, leads_and, reply, send, is_leader}
 use Rattle.cp_step.specs.Terms.{adopts}
@@ -27,10 +28,10 @@ pub record Led (t : Turn) (v : VolatileState) : Type 0 where
   pub candidate : v.role ≢ Candidate
   pub received : v.received ≡ t.v.received
   pub up : t.v.commit ≤ v.commit
-  pub within : v.commit ≤ last_index t.p
+  pub within : v.commit ≤ last t.p
   pub commit : (v.commit ≤ t.v.commit) ⊎ LeaderCommitsByMatch (here t) (core t true t.p v)
   pub matched : (f : ℕ) → ((peer v.peers f).matched ≡ 0) ⊎ MatchedUpto (here t) (core t true t.p v) f (peer v.peers f).matched
-  pub placed : (f : ℕ) → IsPlaced (last_index t.p) (length t.p.snapshot) (peer v.peers f)
+  pub placed : (f : ℕ) → IsPlaced (last t.p) (length t.p.snapshot) (peer v.peers f)
 
 pub led : (t : Turn) (v : VolatileState) (sends : List Sent) → t.v.role ≡ Leader → Led t v → All (Truth t true t.p v) sends → Left t true t.p v sends
 led t v sends leader l says = let a = t.sound.above_base in let b = l.up in record {
@@ -66,8 +67,8 @@ led t v sends leader l says = let a = t.sound.above_base in let b = l.up in reco
 
 module _ (t : Turn) (leader : t.v.role ≡ Leader) where
   -- what is kept of one member changes
-  changed_placed : (from : ℕ) (x : Peer) → IsPlaced (last_index t.p) (length t.p.snapshot) x → (f : ℕ) → IsPlaced (last_index t.p) (length t.p.snapshot) (peer (with_peer from x t.v).peers f)
-  changed_placed from x placed f = set_place (IsPlaced (last_index t.p) (length t.p.snapshot)) t.v.peers from x (new_peer 1) placed (t.sound.peers leader) f
+  changed_placed : (from : ℕ) (x : Peer) → IsPlaced (last t.p) (length t.p.snapshot) x → (f : ℕ) → IsPlaced (last t.p) (length t.p.snapshot) (peer (with_peer from x t.v).peers f)
+  changed_placed from x placed f = set_place (IsPlaced (last t.p) (length t.p.snapshot)) t.v.peers from x (new_peer 1) placed (t.sound.peers leader) f
 
   changed_matched : (from : ℕ) (x : Peer) (v : VolatileState) → MatchedUpto (here t) (core t true t.p v) from x.matched
       → (f : ℕ) → ((peer (with_peer from x t.v).peers f).matched ≡ 0) ⊎ MatchedUpto (here t) (core t true t.p v) f (peer (with_peer from x t.v).peers f).matched
@@ -85,7 +86,7 @@ module _ (t : Turn) (leader : t.v.role ≡ Leader) where
   stays_leader v sends same l = subst (λ b. Left t b t.p v sends) (sym (ap is_leader (same ∙ leader))) l
 
   -- a peer changes, but not what it is known to hold
-  same_match : (from : ℕ) (x : Peer) → x.matched ≡ (peer t.v.peers from).matched → IsPlaced (last_index t.p) (length t.p.snapshot) x → Led t (with_peer from x t.v)
+  same_match : (from : ℕ) (x : Peer) → x.matched ≡ (peer t.v.peers from).matched → IsPlaced (last t.p) (length t.p.snapshot) x → Led t (with_peer from x t.v)
   same_match from x same placed = record {
     candidate = leader_or_candidate t.v.role leader;
     received = refl;
@@ -103,13 +104,13 @@ module _ (t : Turn) (leader : t.v.role ≡ Leader) where
       let v' = commits t.me t.p w in
       let c = committing t.me t.p w (commit_found t.me t.p w) in
       let rises = commit_rises t.me t.p w t.sound.within in
-      let sends : List Sent = if is_leader v'.role && nat_lt index (last_index t.p) then append_to t.p v' from ∷ [] else [] in
-      either (Good t) (nat_lt (peer t.v.peers from).matched index && nat_le index (last_index t.p)) (leads_and (does None v' sends)) (does None t.v [])
+      let sends : List Sent = if is_leader v'.role && nat_lt index (last t.p) then append_to t.p v' from ∷ [] else [] in
+      either (Good t) (nat_lt (peer t.v.peers from).matched index && nat_le index (last t.p)) (leads_and (does None v' sends)) (does None t.v [])
       (λ h.
-      let high = leb-true index (last_index t.p) (and_parts (nat_lt (peer t.v.peers from).matched index) (nat_le index (last_index t.p)) h).1 in
+      let high = leb-true index (last t.p) (and_parts (nat_lt (peer t.v.peers from).matched index) (nat_le index (last t.p)) h).1 in
       let was = t.sound.peers leader from in
-      let placed : IsPlaced (last_index t.p) (length t.p.snapshot) x = record { first = omega arith; next = omega (arith, high); matched = high; offset = was.offset } in
-      let all_placed : (f : ℕ) → IsPlaced (last_index t.p) (length t.p.snapshot) (peer v'.peers f) = (λ f. subst (λ l. IsPlaced (last_index t.p) (length t.p.snapshot) (peer l f)) (sym c.peers) (changed_placed from x placed f)) in
+      let placed : IsPlaced (last t.p) (length t.p.snapshot) x = record { first = omega arith; next = omega (arith, high); matched = high; offset = was.offset } in
+      let all_placed : (f : ℕ) → IsPlaced (last t.p) (length t.p.snapshot) (peer v'.peers f) = (λ f. subst (λ l. IsPlaced (last t.p) (length t.p.snapshot) (peer l f)) (sym c.peers) (changed_placed from x placed f)) in
       let all_matched = changed_matched from x v' (known v') in
       led t v' sends leader (record {
         candidate = λ z. ⊎_elim (λ y. leader_or_candidate v'.role (y ∙ leader) z) (λ y. follower_or_candidate v'.role y z) c.role;
@@ -120,7 +121,7 @@ module _ (t : Turn) (leader : t.v.role ≡ Leader) where
         matched = λ f. subst (λ l. ((peer l f).matched ≡ 0) ⊎ MatchedUpto (here t) (core t true t.p v') f (peer l f).matched) (sym c.peers) (all_matched f);
         placed = all_placed;
       })
-      (either (All (Truth t true t.p v')) (is_leader v'.role && nat_lt index (last_index t.p)) (append_to t.p v' from ∷ []) []
+      (either (All (Truth t true t.p v')) (is_leader v'.role && nat_lt index (last t.p)) (append_to t.p v' from ∷ []) []
       (λ y. one (Truth t true t.p v') (append_to t.p v' from) (sends_one t t.p v' from (all_placed from)))
       (λ y. All-nil (Truth t true t.p v'))))
       (λ h. silent t)
@@ -133,7 +134,7 @@ module _ (t : Turn) (leader : t.v.role ≡ Leader) where
       let was = t.sound.peers leader from in
       let a = was.next in
       let b = was.matched in
-      let placed : IsPlaced (last_index t.p) (length t.p.snapshot) x = record { first = omega arith; next = omega (arith, a, b); matched = b; offset = was.offset } in
+      let placed : IsPlaced (last t.p) (length t.p.snapshot) x = record { first = omega arith; next = omega (arith, a, b); matched = b; offset = was.offset } in
       let l = same_match from x refl placed in
       let sends : List Sent = if nat_lt next (peer t.v.peers from).next then append_to t.p v' from ∷ [] else [] in
       stays_leader v' sends refl (led t v' sends leader l
@@ -153,7 +154,7 @@ module _ (t : Turn) (leader : t.v.role ≡ Leader) where
       let fits = leb-true received (length t.p.snapshot) b.0 in
       let low = leb-true (peer t.v.peers from).next t.p.base b.1 in
       let first = was.first in
-      let placed : IsPlaced (last_index t.p) (length t.p.snapshot) x = record { first = first; next = was.next; matched = was.matched; offset = fits } in
+      let placed : IsPlaced (last t.p) (length t.p.snapshot) x = record { first = first; next = was.next; matched = was.matched; offset = fits } in
       stays_leader v' (reply from (chunk_from t.p received)) refl (led t v' (reply from (chunk_from t.p received)) leader (same_match from x refl placed)
       (one (Truth t true t.p v') (send from (chunk_from t.p received)) (record { sender_is = refl; term_is = refl; leading = refl; index_is = refl; index_term_is = refl; members_is = refl }, own_chunk t.p received (omega (arith, low, first)) fits))))
       (λ h. silent t)

@@ -8,8 +8,11 @@ use Rattle.cp_safety.specs.Tracking.{untracked, untracked_cluster, uncut_step, S
 use Rattle.cp_safety.specs.Chunks.{Chunk}
 use Rattle.cp_step.specs.declared.role.Role.TheVariants.{Follower}
 use Rattle.cp_step.specs.Limits.{most_snapshot}
-use Rattle.cp_step.specs.Spelling.{SnapshotHead, head_of}
-use Rattle.cp_step.specs.Persistent.{PersistentState, ballot, has_term, with_snapshot}
+use Rattle.cp_parts.specs.declared.snapshot_head.SnapshotHead.{SnapshotHead}
+use Rattle.cp_parts.specs.Heads.{head_of}
+use Rattle.cp_store_state.specs.Persistent as stored
+use Rattle.cp_store_state.specs.Persistent.{PersistentState, entry_at, with_head, with_ballot}
+use Rattle.cp_step.specs.Persistent.{ballot}
 use Rattle.cp_step.specs.Volatile.{VolatileState}
 use Rattle.cp_step.specs.Local.{SnapshotReply, does, reply, send}
 use Rattle.cp_step.specs.Terms.{adopted}
@@ -17,9 +20,9 @@ use Rattle.cp_step.specs.Appends.{following}
 use Rattle.cp_step.specs.Snapshots.{received_of, joined, Progress, Apart, TooLong, More, Whole, progress_of, progress, answers, installs, takes_chunk, on_snapshot}
 use Rattle.cp_step_facts.specs.Seen.{tracked_member, head_term, head_members}
 use Rattle.cp_step_facts.proofs.Basics.{either, follower_or_leader, follower_or_candidate, one}
-use Rattle.cp_step_facts.proofs.Knowing.{has_known, known_has}
+use Rattle.cp_step_facts.proofs.Knowing.{has_known, known_has, entry_has}
 use Rattle.cp_step_facts.proofs.Turns.{Turn, got, here, core, Truth, Receives, Left, Good}
-use Rattle.cp_step_facts.proofs.Quiet.{with_ballot, adopting, adopted_term, calm_low, silent, takes_ballot}
+use Rattle.cp_step_facts.proofs.Quiet.{adopting, adopted_term, calm_low, silent, takes_ballot}
 use Rattle.cp_step_facts.proofs.Votes.{plain}
 
 module _ (t : Turn) (from term index offset : ℕ) (is_last : Bool) (bytes : List ℕ) (came_is : t.came ≡ Some (Chunk from term index offset is_last bytes)) (low : t.p.term ≤ term) where
@@ -30,7 +33,7 @@ module _ (t : Turn) (from term index offset : ℕ) (is_last : Bool) (bytes : Lis
   -- an answer that is not done
   more : (v : VolatileState) (received : ℕ) → v.role ≡ Follower → v.commit ≡ t.v.commit → Receives t.v t.came v → Good t (answers t.p v from term index false received)
   more v received role commit goes = takes_ballot t term v (reply from (SnapshotReply term index false received)) commit goes (inl role)
-      (λ leads. one (Truth t leads (with_ballot t.p (adopted term (ballot t.p)).term (adopted term (ballot t.p)).vote) v) (send from (SnapshotReply term index false received)) (tt, tt))
+      (λ leads. one (Truth t leads (with_ballot (adopted term (ballot t.p)).term (adopted term (ballot t.p)).vote t.p) v) (send from (SnapshotReply term index false received)) (tt, tt))
 
   -- what is committed is done
   done : index ≤ t.v.commit → Good t (answers t.p (following from t.v) from term index true 0)
@@ -38,7 +41,7 @@ module _ (t : Turn) (from term index offset : ℕ) (is_last : Bool) (bytes : Lis
       let now = adopted term (ballot t.p) in
       let reached : now.term ≡ term = adopted_term term t.p low in
       takes_ballot t term (following from t.v) (reply from (SnapshotReply term index true 0)) refl (inl refl) (inl refl)
-      (λ leads. one (Truth t leads (with_ballot t.p now.term now.vote) (following from t.v)) (send from (SnapshotReply term index true 0)) (
+      (λ leads. one (Truth t leads (with_ballot now.term now.vote t.p) (following from t.v)) (send from (SnapshotReply term index true 0)) (
         (
           refl,
           sym reached,
@@ -54,12 +57,13 @@ module _ (t : Turn) (from term index offset : ℕ) (is_last : Bool) (bytes : Lis
       ))
 
   -- the whole snapshot
-  installed : (all : List ℕ) (head : SnapshotHead) → head_of all ≡ Some head → (t.index_term ≡ head.term) × (t.members ≡ head.configuration.members) → t.v.commit < index → Good t (installs t.p t.v from term index all)
+  installed : (all : List ℕ) (head : SnapshotHead) → head_of all ≡ Some head → (t.index_term ≡ head.term) × (t.members ≡ head.config.members) → t.v.commit < index → Good t (installs t.p t.v from term index all)
   installed all head is same above =
       let now = adopted term (ballot t.p) in
       let ad = adopting term t.p t.v in
       let v' : VolatileState = record (following from t.v) { commit = index; received = None } in
-      let p' = with_snapshot now index all (Some head) t.p in
+      let p' = with_head now.term now.vote index all (Some head) t.p in
+      let same_has = entry_has t.p index head.term (let base = t.sound.above_base in omega (arith, base, above)) in
       let reached : now.term ≡ term = adopted_term term t.p low in
       let base = t.sound.above_base in
       let calm = calm_low t p' v' (follower_or_leader Follower refl) (follower_or_candidate Follower refl) in
@@ -68,11 +72,11 @@ module _ (t : Turn) (from term index offset : ℕ) (is_last : Bool) (bytes : Lis
         got = whole_got ∙ ap (λ u. Some (cluster.Snapshot from u index t.index_term t.members)) (sym reached) ∙ ap₂ (λ a b. Some (cluster.Snapshot from now.term index a b)) same.0 same.1;
         above = above;
         commit = refl;
-        log = either (λ l. (KnowsTerm (untracked (tracked_member t.p t.v)) index head.term × (l ≡ drop (index - t.p.base) t.p.log)) ⊎ ((KnowsTerm (untracked (tracked_member t.p t.v)) index head.term → ⊥) × (l ≡ []))) (has_term t.p index head.term) (drop (index - t.p.base) t.p.log) []
-            (λ k. inl (has_known t.p t.v index head.term k, refl))
-            (λ k. inr ((λ z. true≢false (sym (known_has t.p t.v index head.term z) ∙ k)), refl));
+        log = either (λ l. (KnowsTerm (untracked (tracked_member t.p t.v)) index head.term × (l ≡ drop (index - t.p.base) t.p.log)) ⊎ ((KnowsTerm (untracked (tracked_member t.p t.v)) index head.term → ⊥) × (l ≡ []))) (stored.is_term head.term (entry_at t.p index)) (drop (index - t.p.base) t.p.log) []
+            (λ k. inl (has_known t.p t.v index head.term (sym same_has ∙ k), refl))
+            (λ k. inr ((λ z. true≢false (sym (known_has t.p t.v index head.term z) ∙ sym same_has ∙ k)), refl));
       } in
-      subst (λ (z : PersistentState). Left t false z v' (reply from (SnapshotReply term index true 0))) (ap (λ o. with_snapshot now index all o t.p) (sym is)) (record {
+      subst (λ (z : PersistentState). Left t false z v' (reply from (SnapshotReply term index true 0))) (ap (λ o. with_head now.term now.vote index all o t.p) (sym is)) (record {
         facts = record {
           named = t.sound.named;
           delivered = t.delivered;
@@ -88,7 +92,7 @@ module _ (t : Turn) (from term index offset : ℕ) (is_last : Bool) (bytes : Lis
           above_base = le_refl index;
           commit = inr (inr (inr inst));
         };
-        says = one (Truth t false p' v') (send from (SnapshotReply term index true 0)) ((refl, sym reached, record { sender = from; index_term = head.term; members = head.configuration.members; got = inst.got; done = inl (inst, refl) }), tt);
+        says = one (Truth t false p' v') (send from (SnapshotReply term index true 0)) ((refl, sym reached, record { sender = from; index_term = head.term; members = head.config.members; got = inst.got; done = inl (inst, refl) }), tt);
         sound = record {
           named = t.sound.named;
           above_base = le_refl index;

@@ -1,5 +1,5 @@
 -- A tick, and what comes after each rule: a snapshot of the member's own, a beat, and the reads that are settled.
-use Rattle.std.proofs.Common.{◌||◌, ◌&&◌, ◌==◌, ◌≡◌, ℕ, suc, ◌-◌, ◌⊎◌, inl, inr, ⊎_elim, not, Bool, true, false, List, [], ◌∷◌, ◌++◌, length, take, drop, map, filter, refl, ap, sym, ◌∙◌, arith, subst, Option, Some, None, is_none, All, nat_lt, nat_le, le_refl, true≢false, if◌then◌else◌}
+use Rattle.std.proofs.Common.{◌||◌, ◌&&◌, ◌==◌, ◌≡◌, ℕ, suc, ◌-◌, ◌<◌, ◌⊎◌, inl, inr, ⊎_elim, not, Bool, true, false, List, [], ◌∷◌, ◌++◌, length, take, drop, map, filter, refl, ap, sym, ◌∙◌, arith, subst, Option, Some, None, is_none, All, nat_lt, nat_le, le_refl, true≢false, if◌then◌else◌}
 use Rattle.std.proofs.lemmas.Bool.{eqb-true, and_parts}
 use Rattle.std.proofs.lemmas.List.{length-drop}
 use Rattle.std.proofs.lemmas.List.Elements.{All-nil, All-cons, All-head, All-tail}
@@ -11,7 +11,9 @@ use Rattle.cp_step.specs.declared.role.Role.{Role}
 use Rattle.cp_step.specs.declared.role.Role.TheVariants.{PreCandidate, Leader}
 use Rattle.cp_step.specs.Limits.{beat_period, most_index, most_snapshot}
 use Rattle.cp_step.specs.Spelling.{empty_entry, snapshot_bytes}
-use Rattle.cp_step.specs.Persistent.{PersistentState, Part, SnapshotPart, ballot, last_index, log_end, known_term, configuration_at, members, is_member, others, with_part, after_part}
+use Rattle.cp_store_state.specs.Persistent.{PersistentState, last}
+use Rattle.cp_store_state.specs.Configurations.{config_at}
+use Rattle.cp_step.specs.Persistent.{Part, SnapshotPart, ballot, log_end, known_term, members, is_member, others, with_part, after_part}
 use Rattle.cp_step.specs.Volatile.{Reads, VolatileState, no_reads, no_votes, new_peer, peer, silence}
 use Rattle.cp_step.specs.Local.{PreVote, Confirm, Sent, LocalStep, does, send, is_leader}
 use Rattle.cp_step.specs.Sending.{appends}
@@ -24,7 +26,7 @@ use Rattle.cp_step.specs.Ticks.{expires, is_proposed, confirms_again, beats, on_
 use Rattle.cp_step_facts.specs.Seen.{seen_role, tracked_member}
 use Rattle.cp_step_facts.specs.Soundness.{IsPlaced, ReadsBack, IsSnapshotDue}
 use Rattle.cp_step_facts.proofs.Basics.{either, from_not, leader_is, mapped_place, all_mapped}
-use Rattle.cp_step_facts.proofs.Knowing.{knows_has, knows_at, configured_members, members_are, quorum_is}
+use Rattle.cp_step_facts.proofs.Knowing.{entry_has, knows_has, knows_at, configured_members, members_are, quorum_is}
 use Rattle.cp_step_facts.proofs.Turns.{Turn, here, core, Truth, Left, Good}
 use Rattle.cp_step_facts.proofs.Quiet.{Calm, rests, quiet_low, stays}
 use Rattle.cp_step_facts.proofs.Commits.{sends_all, creates_good}
@@ -91,16 +93,16 @@ module _ (t : Turn) (role : Role) (leader clock heard : ℕ) (votes : List Bool)
     vote = t.p.vote;
     base = t.v.commit;
     base_term = known_term t.p t.v.commit;
-    base_configuration = configuration_at t.p t.v.commit;
+    base_config = config_at t.p t.v.commit;
     snapshot = bytes;
     log = drop (t.v.commit - t.p.base) t.p.log;
   }
 
-  compacts : (machine : List ℕ) → ReadsBack t.p t.v.commit machine
+  compacts : (machine : List ℕ) → t.p.base < t.v.commit → ReadsBack t.p t.v.commit machine
       → let bytes = snapshot_bytes (own_head t.p t.v.commit) machine in with_part (SnapshotPart (ballot t.p) t.v.commit bytes) t.p ≡ compacted bytes
-  compacts machine back = let has = knows_has t.p t.v.commit t.sound.above_base t.sound.within in rw (back, has) refl
+  compacts machine above back = let has = entry_has t.p t.v.commit (known_term t.p t.v.commit) above ∙ knows_has t.p t.v.commit t.sound.above_base t.sound.within in rw (back, has) refl
 
-  same_last : (bytes : List ℕ) → last_index (compacted bytes) ≡ last_index t.p
+  same_last : (bytes : List ℕ) → last (compacted bytes) ≡ last t.p
   same_last bytes = let a = t.sound.above_base in let b = t.sound.within in omega (arith, a, b, length-drop (t.v.commit - t.p.base) t.p.log)
 
   same_peer : (f : ℕ) → peer shifted.peers f ≡ from_start (peer t.v.peers f)
@@ -130,7 +132,7 @@ module _ (t : Turn) (role : Role) (leader clock heard : ℕ) (votes : List Bool)
       let high = t.sound.within in
       let above = due.above in
       let same = same_last bytes in
-      subst (λ (z : PersistentState). Left t leads z shifted sends) (sym (compacts machine due.reads_back)) (record {
+      subst (λ (z : PersistentState). Left t leads z shifted sends) (sym (compacts machine due.above due.reads_back)) (record {
         facts = rests t leads (compacted bytes) shifted
             (inr (record {
               n = t.v.commit - t.p.base;
@@ -138,7 +140,7 @@ module _ (t : Turn) (role : Role) (leader clock heard : ℕ) (votes : List Bool)
               fits = omega (arith, low, high);
               committed = le_refl t.v.commit;
               term = knows_at t.p t.v t.v.commit low high;
-              members = configured_members t.p.base_configuration t.p.base (take (t.v.commit - t.p.base) t.p.log);
+              members = configured_members t.p.base_config t.p.base (take (t.v.commit - t.p.base) t.p.log);
               log = refl;
             }))
             (le_refl t.p.term) (λ e ne. refl) (le_refl t.v.commit) refl (shifted_calm bytes leads g.facts);
@@ -152,7 +154,7 @@ module _ (t : Turn) (role : Role) (leader clock heard : ℕ) (votes : List Bool)
           campaigns = g.sound.campaigns;
           leads = g.sound.leads;
           peers = λ h f. let x = g.sound.peers h f in let a = x.next in let b = x.matched in
-              subst (IsPlaced (last_index (compacted bytes)) (length bytes)) (sym (same_peer f)) (record { first = x.first; next = omega (arith, a, same); matched = omega (arith, b, same); offset = omega arith });
+              subst (IsPlaced (last (compacted bytes)) (length bytes)) (sym (same_peer f)) (record { first = x.first; next = omega (arith, a, same); matched = omega (arith, b, same); offset = omega arith });
         };
         snapshot = inr (above, (own_head t.p t.v.commit, due.reads_back, refl, refl));
         receives = g.receives;
@@ -171,7 +173,7 @@ module _ (t : Turn) (role : Role) (leader clock heard : ℕ) (votes : List Bool)
       (λ h. beats_good t (does None idle sends) g)
 
 -- a step that wrote takes no snapshot
-wrote : (p : PersistentState) (s : LocalStep) (part : Part) (may_write : Bool) (machine : Option (List ℕ)) → s.part ≡ Some part → own_snapshot p s may_write machine ≡ s
+pub wrote : (p : PersistentState) (s : LocalStep) (part : Part) (may_write : Bool) (machine : Option (List ℕ)) → s.part ≡ Some part → own_snapshot p s may_write machine ≡ s
 wrote p s part may_write None e = refl
 wrote p s part may_write (Some machine) e = either (λ (z : LocalStep). z ≡ s) (may_write && is_none s.part) (writes_snapshot p s (snapshot_bytes (own_head p s.state.commit) machine)) s
     (λ h. let x = (and_parts may_write (is_none s.part) h).1 in absurd (true≢false (sym x ∙ ap is_none e)))
@@ -207,12 +209,12 @@ module _ (t : Turn) (clock : ℕ) (may_write : Bool) (machine : Option (List ℕ
       (quiet_low t t.p.term t.p.vote v' sends (le_refl t.p.term) (λ e ne. refl) (λ h. cc) (λ h. cc) refl (inl refl) (plain false t.p v'))
       plain may_write machine due
 
-  alone_good : length (members t.p) ≡ 1 → may_stand t.me (members t.p) t.p.term (last_index t.p) (silence ticked) ≡ true → Ends (takes_leadership t.me t.p (record ticked { heard = clock }) (suc t.p.term))
+  alone_good : length (members t.p) ≡ 1 → may_stand t.me (members t.p) t.p.term (last t.p) (silence ticked) ≡ true → Ends (takes_leadership t.me t.p (record ticked { heard = clock }) (suc t.p.term))
   alone_good one may =
       let w : VolatileState = record ticked { heard = clock } in
       let given : Ballot = record { term = suc t.p.term; vote = t.me } in
       let s = takes_leadership t.me t.p w (suc t.p.term) in
-      let inside = (and_parts (is_member t.me (members t.p)) (nat_le (timeout t.me) (silence ticked) && (nat_lt t.p.term most_index && nat_lt (last_index t.p) most_index)) may).0 in
+      let inside = (and_parts (is_member t.me (members t.p)) (nat_le (timeout t.me) (silence ticked) && (nat_lt t.p.term most_index && nat_lt (last t.p) most_index)) may).0 in
       subst (λ (s : LocalStep). Good t (beats t.me t.p s)) (sym (wrote t.p s (created_part t.p given empty_entry) may_write machine refl))
       (beats_good t s (creates_good t (leading t.me t.p w) given empty_entry (leadership t w (suc t.p.term) refl refl (omega arith) (omega arith) (λ e ne. absurd (omega (arith, e)))
       (λ v'. inr (record {
@@ -223,7 +225,7 @@ module _ (t : Turn) (clock : ℕ) (may_write : Bool) (machine : Option (List ℕ
 
   times_out_good : Ends (times_out t.me t.p ticked may_write)
   times_out_good =
-      let may = may_stand t.me (members t.p) t.p.term (last_index t.p) (silence ticked) in
+      let may = may_stand t.me (members t.p) t.p.term (last t.p) (silence ticked) in
       let taking = takes_leadership t.me t.p (record ticked { heard = clock }) (suc t.p.term) in
       either Ends (not may) (does None ticked []) (if length (members t.p) == 1 then (if may_write then taking else does None ticked []) else stands t.me t.p ticked)
       (λ h. nothing_due)

@@ -3,8 +3,10 @@ use Rattle.std.proofs.Common.{◌≡◌, ℕ, ◌<◌, ◌⊎◌, Bool, true, fa
 use Rattle.cp_rules.specs.Clusters.{Message}
 use Rattle.cp_safety.specs.Tracking.{TrackedCluster, TrackedStep, TrackedFacts, SendsTruly}
 use Rattle.cp_safety.specs.Chunks.{Wire, Chunk, IsPiece, seen_got, seen_sent}
-use Rattle.cp_step.specs.Spelling.{SnapshotHead, head_of}
-use Rattle.cp_step.specs.Persistent.{PersistentState, after_part}
+use Rattle.cp_parts.specs.declared.snapshot_head.SnapshotHead.{SnapshotHead}
+use Rattle.cp_parts.specs.Heads.{head_of}
+use Rattle.cp_store_state.specs.Persistent.{PersistentState}
+use Rattle.cp_step.specs.Persistent.{after_part}
 use Rattle.cp_step.specs.Volatile.{Received, VolatileState}
 use Rattle.cp_step.specs.Local.{Body, PreVote, PreVoteReply, Vote, VoteReply, Append, AppendReply, Snapshot, SnapshotReply, Confirm, Confirmed, Sent, LocalStep}
 use Rattle.cp_step.specs.Snapshots.{joined, received_of}
@@ -54,10 +56,10 @@ Truth t leads p v x = SendsTruly (here t) (core t leads p v) (seen_sent (tracked
 
 -- a snapshot stays, or gives way to one of a higher index that spells what stands with the new base
 abbrev pub KeepsSnapshot : PersistentState → PersistentState → Type 0
-KeepsSnapshot p q = (q.base ≡ p.base) × (q.base_term ≡ p.base_term) × (q.base_configuration ≡ p.base_configuration) × (q.snapshot ≡ p.snapshot)
+KeepsSnapshot p q = (q.base ≡ p.base) × (q.base_term ≡ p.base_term) × (q.base_config ≡ p.base_config) × (q.snapshot ≡ p.snapshot)
 
 abbrev pub RaisesSnapshot : PersistentState → PersistentState → Type 0
-RaisesSnapshot p q = (p.base < q.base) × ((head : SnapshotHead) × (head_of q.snapshot ≡ Some head) × (head.term ≡ q.base_term) × (head.configuration ≡ q.base_configuration))
+RaisesSnapshot p q = (p.base < q.base) × ((head : SnapshotHead) × (head_of q.snapshot ≡ Some head) × (head.term ≡ q.base_term) × (head.config ≡ q.base_config))
 
 -- what was received goes on by the chunk that came
 pub record GoesOn (v : VolatileState) (came : Option Wire) (after : Option Received) : Type 0 where

@@ -6,6 +6,7 @@ use Rattle.cp_rules.specs.Clusters as cluster
 use Rattle.cp_step.specs.declared.ballot.Ballot.{Ballot}
 use Rattle.cp_step.specs.declared.log_end.LogEnd.{LogEnd}
 use Rattle.cp_step.specs.declared.role.Role.TheVariants.{Follower}
+use Rattle.cp_store_state.specs.Persistent.{with_ballot}
 use Rattle.cp_step.specs.Persistent.{ballot, log_end, ballot_part}
 use Rattle.cp_step.specs.Volatile.{VolatileState}
 use Rattle.cp_step.specs.Local.{PreVoteReply, VoteReply, Confirmed, Sent, LocalStep, does, reply, send, is_leader}
@@ -16,7 +17,7 @@ use Rattle.cp_step.specs.Confirming.{with_round, on_confirm, on_confirmed}
 use Rattle.cp_step_facts.proofs.Basics.{either, one}
 use Rattle.cp_step_facts.proofs.Knowing.{ends, up_to_date}
 use Rattle.cp_step_facts.proofs.Turns.{Turn, got, Truth, Good}
-use Rattle.cp_step_facts.proofs.Quiet.{with_ballot, after_ballot, adopting, SameRole, nothing, silent, stays, adopts_good, takes_on, takes_ballot}
+use Rattle.cp_step_facts.proofs.Quiet.{after_ballot, adopting, SameRole, nothing, silent, stays, adopts_good, takes_on, takes_ballot}
 
 -- one message of which agreement reads nothing
 pub plain : (t : Turn) (x : Sent) → ((leads : Bool) → Truth t leads t.p t.v x) → Good t (does None t.v (x ∷ []))
@@ -61,13 +62,13 @@ vote_good t from term candidate is =
     let reached : now.term ≡ term = eqb-true now.term term a.0 in
     let s = stepped t term (steps_down_for term t.p t.v).leader t.v.clock in
     takes_on t term from (ballot_part t.p given) granted_state (reply from (VoteReply term true))
-    (after_ballot t.p given ∙ ap (λ u. with_ballot t.p u from) (sym reached))
+    (after_ballot t.p given ∙ ap (λ u. with_ballot u from t.p) (sym reached))
     (λ e ne. ⊎_elim
     (λ z. absurd (ne (sym (ad.vote e) ∙ eqb-true now.vote 0 z)))
     (λ z. sym (eqb-true now.vote from z) ∙ ad.vote e)
     (or_cases (now.vote == 0) (now.vote == from) b.0))
     s.commit (inl s.received) s.role
-    (λ leads. let p' = with_ballot t.p now.term from in one (Truth t leads p' granted_state) (send from (VoteReply term true)) (
+    (λ leads. let p' = with_ballot now.term from t.p in one (Truth t leads p' granted_state) (send from (VoteReply term true)) (
       record {
         voter_is = refl;
         term_is = sym reached;
@@ -85,7 +86,7 @@ vote_good t from term candidate is =
     (λ refused.
     let s = stepped t term (steps_down_for term t.p t.v).leader (steps_down_for term t.p t.v).heard in
     takes_ballot t term (steps_down_for term t.p t.v) (reply from (VoteReply now.term false)) s.commit (inl s.received) s.role
-    (λ leads. one (Truth t leads (with_ballot t.p now.term now.vote) (steps_down_for term t.p t.v)) (send from (VoteReply now.term false)) (tt, tt)))
+    (λ leads. one (Truth t leads (with_ballot now.term now.vote t.p) (steps_down_for term t.p t.v)) (send from (VoteReply now.term false)) (tt, tt)))
 
 -- ---- confirmations
 
@@ -97,7 +98,7 @@ confirm_good t from term round =
     (λ h. plain t (send from (Confirmed t.p.term false 0)) (λ leads. (tt, tt)))
     (λ h. let s = stepped t term from t.v.clock in
     takes_ballot t term state (reply from (Confirmed term true round)) s.commit (inl s.received) s.role
-    (λ leads. one (Truth t leads (with_ballot t.p now.term now.vote) state) (send from (Confirmed term true round)) (tt, tt)))
+    (λ leads. one (Truth t leads (with_ballot now.term now.vote t.p) state) (send from (Confirmed term true round)) (tt, tt)))
 
 pub adopts_or : (t : Turn) (term : ℕ) (s : LocalStep) → Good t s → Good t (if nat_lt t.p.term term then adopts term t.p t.v else s)
 adopts_or t term s good = either (Good t) (nat_lt t.p.term term) (adopts term t.p t.v) s (λ h. adopts_good t term (ltb-true t.p.term term h)) (λ h. good)

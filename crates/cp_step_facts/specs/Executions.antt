@@ -5,8 +5,9 @@ use Rattle.cp_rules.specs.Facts.{MeetsFacts}
 use Rattle.cp_safety.specs.Tracking.{untracked}
 use Rattle.cp_safety.specs.Chunks.{ChunkedStep, MeetsChunkedFacts, chunked_after}
 use Rattle.cp_step.specs.declared.role.Role.TheVariants.{Leader}
-use Rattle.cp_step.specs.Spelling.{Configuration}
-use Rattle.cp_step.specs.Persistent.{PersistentState, after_part}
+use Rattle.cp_parts.specs.declared.config.Config.{Config}
+use Rattle.cp_store_state.specs.Persistent.{PersistentState}
+use Rattle.cp_step.specs.Persistent.{after_part}
 use Rattle.cp_step.specs.Volatile.{VolatileState, started}
 use Rattle.cp_step.specs.Local.{Body, Sent, Event, Got, LocalStep}
 use Rattle.cp_step_facts.specs.Seen.{chunked_member, tracked_member, step_of, chunked_step, reader}
@@ -49,14 +50,14 @@ left_by w a = record { stored = stored_after w a; state = if a.cut then started 
 abbrev pub after_act : LocalCluster → Act → LocalCluster
 after_act w a = record { member = put w.member a.actor (left_by w a); sent = w.sent ++ (if a.cut then [] else map (mail a.actor) (did w a).sends) }
 
-abbrev pub opening : Configuration → LocalCluster
+abbrev pub opening : Config → LocalCluster
 opening first = record {
-  member = λ m. record { stored = record { term = 0; vote = 0; base = 0; base_term = 0; base_configuration = first; snapshot = []; log = [] }; state = started 0 0 };
+  member = λ m. record { stored = record { term = 0; vote = 0; base = 0; base_term = 0; base_config = first; snapshot = []; log = [] }; state = started 0 0 };
   sent = [];
 }
 
 -- An execution is a list of what happened, the latest first.
-abbrev pub local_after : Configuration → List Act → LocalCluster
+abbrev pub local_after : Config → List Act → LocalCluster
 local_after first [] = opening first
 local_after first (a ∷ before) = after_act (local_after first before) a
 
@@ -66,7 +67,7 @@ pub record IsAllowed (w : LocalCluster) (a : Act) : Type 0 where
   pub delivered : (from : ℕ) (body : Body) → a.event ≡ Some (Got from body) → Contains w.sent (record { from = from; to = a.actor; body = body })
   pub fair : (e : Event) → a.event ≡ Some e → IsFair (w.member a.actor).stored (w.member a.actor).state e
 
-abbrev pub IsExecution : Configuration → List Act → Type 0
+abbrev pub IsExecution : Config → List Act → Type 0
 IsExecution first [] = Unit {0}
 IsExecution first (a ∷ before) = IsAllowed (local_after first before) a × IsExecution first before
 
@@ -74,25 +75,25 @@ IsExecution first (a ∷ before) = IsAllowed (local_after first before) a × IsE
 abbrev pub seen_act : LocalCluster → Act → ChunkedStep
 seen_act w a = chunked_step a.actor a.cut (w.member a.actor).stored (w.member a.actor).state a.event
 
-abbrev pub seen_acts : Configuration → List Act → List ChunkedStep
+abbrev pub seen_acts : Config → List Act → List ChunkedStep
 seen_acts first [] = []
 seen_acts first (a ∷ before) = seen_act (local_after first before) a ∷ seen_acts first before
 
 -- Each execution of local steps meets the facts; its members are those that agreement sees, and they are sound.
-pub record LocalExecution (first : Configuration) (acts : List Act) : Type 0 where
+pub record LocalExecution (first : Config) (acts : List Act) : Type 0 where
   pub meets : MeetsChunkedFacts reader first.members (seen_acts first acts)
   pub same : (m : ℕ) → (chunked_after first.members (seen_acts first acts)).member m ≡ chunked_member ((local_after first acts).member m).stored ((local_after first acts).member m).state
   pub sound : (m : ℕ) → m ≢ 0 → IsSound m ((local_after first acts).member m).stored ((local_after first acts).member m).state
 
 abbrev pub LocalExecutions : Type 0
-LocalExecutions = (first : Configuration) (acts : List Act) → IsExecution first acts → LocalExecution first acts
+LocalExecutions = (first : Config) (acts : List Act) → IsExecution first acts → LocalExecution first acts
 
 -- So there are steps that meet the facts without chunks, and leave the same members: each law of agreement holds of these.
 abbrev pub Agrees : Type 0
-Agrees = (first : Configuration) (acts : List Act) → IsExecution first acts → (steps : List Step) × MeetsFacts first.members steps
+Agrees = (first : Config) (acts : List Act) → IsExecution first acts → (steps : List Step) × MeetsFacts first.members steps
     × ((m : ℕ) → (cluster_after first.members steps).member m ≡ untracked (tracked_member ((local_after first acts).member m).stored ((local_after first acts).member m).state))
 
 -- No two members lead in one term.
 abbrev pub OneLeader : Type 0
-OneLeader = (first : Configuration) (acts : List Act) → IsExecution first acts → (m n : ℕ) → ((local_after first acts).member m).state.role ≡ Leader → ((local_after first acts).member n).state.role ≡ Leader
+OneLeader = (first : Config) (acts : List Act) → IsExecution first acts → (m n : ℕ) → ((local_after first acts).member m).state.role ≡ Leader → ((local_after first acts).member n).state.role ≡ Leader
     → ((local_after first acts).member m).stored.term ≡ ((local_after first acts).member n).stored.term → m ≡ n

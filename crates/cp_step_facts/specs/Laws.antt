@@ -1,7 +1,8 @@
 -- Local steps meet the facts of agreement.
 use Rattle.std.specs.Prelude.{◌≡◌, ℕ, Bool, Option, Some, Contains}
 use Rattle.cp_safety.specs.Chunks.{ChunkedCluster, ChunkedFacts, Wire}
-use Rattle.cp_step.specs.Persistent.{PersistentState, after_part}
+use Rattle.cp_store_state.specs.Persistent.{PersistentState}
+use Rattle.cp_step.specs.Persistent.{after_part}
 use Rattle.cp_step.specs.Volatile.{VolatileState, started}
 use Rattle.cp_step.specs.Local.{Event}
 use Rattle.cp_step.specs.Steps.{step}

@@ -7,8 +7,10 @@ use Rattle.cp_safety.specs.Chunks as chunks
 use Rattle.cp_safety.specs.Chunks.{SnapshotReader, ChunkedMember, ChunkedStep, Wire, AsItIs, Chunk}
 use Rattle.cp_step.specs.declared.role.Role.{Role}
 use Rattle.cp_step.specs.declared.role.Role.TheVariants.{Follower, PreCandidate, Candidate, Leader}
-use Rattle.cp_step.specs.Spelling.{SnapshotHead, head_of}
-use Rattle.cp_step.specs.Persistent.{PersistentState, after_part}
+use Rattle.cp_parts.specs.declared.snapshot_head.SnapshotHead.{SnapshotHead}
+use Rattle.cp_parts.specs.Heads.{head_of}
+use Rattle.cp_store_state.specs.Persistent.{PersistentState}
+use Rattle.cp_step.specs.Persistent.{after_part}
 use Rattle.cp_step.specs.Volatile.{Received, VolatileState, has_voted, peer}
 use Rattle.cp_step.specs.Local.{Body, PreVote, PreVoteReply, Vote, VoteReply, Append, AppendReply, Snapshot, SnapshotReply, Confirm, Confirmed, Sent, Event, Tick, Got, Propose, ChangeMembers, Read, LocalStep, does}
 use Rattle.cp_step.specs.Steps.{step}
@@ -27,7 +29,7 @@ tracked_member p v = record {
   vote = p.vote;
   base = p.base;
   base_term = p.base_term;
-  base_members = p.base_configuration.members;
+  base_members = p.base_config.members;
   log = p.log;
   commit = v.commit;
   role = seen_role v.role;
@@ -100,7 +102,7 @@ head_term (Some head) = head.term
 
 abbrev pub head_members : Option SnapshotHead → List ℕ
 head_members None = []
-head_members (Some head) = head.configuration.members
+head_members (Some head) = head.config.members
 
 abbrev pub reader : SnapshotReader
 reader = record { term_of = λ bytes. head_term (head_of bytes); members_of = λ bytes. head_members (head_of bytes) }

@@ -4,8 +4,9 @@ use Rattle.cp_base.specs.declared.identifier.Invocation.{Invocation}
 use Rattle.cp_rules.specs.Entries.{members_in}
 use Rattle.cp_step.specs.declared.peer.Peer.{Peer}
 use Rattle.cp_step.specs.declared.role.Role.TheVariants.{Candidate, Leader}
-use Rattle.cp_step.specs.Spelling.{head_of, snapshot_bytes}
-use Rattle.cp_step.specs.Persistent.{PersistentState, last_index}
+use Rattle.cp_parts.specs.Heads.{head_of}
+use Rattle.cp_step.specs.Spelling.{snapshot_bytes}
+use Rattle.cp_store_state.specs.Persistent.{PersistentState, last}
 use Rattle.cp_step.specs.Volatile.{VolatileState, peer}
 use Rattle.cp_step.specs.Local.{Event, Tick, Got, Propose, ChangeMembers, Read}
 use Rattle.cp_step.specs.Snapshots.{own_head}
@@ -20,12 +21,12 @@ pub record IsPlaced (last snapshot : ℕ) (x : Peer) : Type 0 where
 pub record IsSound (me : ℕ) (p : PersistentState) (v : VolatileState) : Type 0 where
   pub named : me ≢ 0
   pub above_base : p.base ≤ v.commit
-  pub within : v.commit ≤ last_index p
+  pub within : v.commit ≤ last p
   pub no_base : p.base ≡ 0 → p.base_term ≡ 0
   pub voted : v.role ≡ Candidate → p.vote ≡ me
   pub campaigns : v.role ≡ Candidate → 0 < p.term
   pub leads : v.role ≡ Leader → 0 < p.term
-  pub peers : v.role ≡ Leader → (member : ℕ) → IsPlaced (last_index p) (length p.snapshot) (peer v.peers member)
+  pub peers : v.role ≡ Leader → (member : ℕ) → IsPlaced (last p) (length p.snapshot) (peer v.peers member)
 
 -- Snapshot bytes of this member can be read again.
 abbrev pub ReadsBack : PersistentState → ℕ → List ℕ → Type 0
