@@ -1,0 +1,5 @@
+pub mod StateLaws
+pub mod Consistent
+pub mod Sound
+pub mod Checks
+pub mod Known

@@ -1,0 +1,5 @@
+pub mod Versions
+pub mod Keys
+pub mod Rows
+pub mod RowLaws
+pub mod Lists
