@@ -1,0 +1,4 @@
+pub mod Stepping
+pub mod Timing
+pub mod Lawful
+pub mod Restoring
