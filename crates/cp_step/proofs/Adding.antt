@@ -13,8 +13,8 @@ use Rattle.cp_store_state.specs.Configurations.{config_after}
 use Rattle.cp_step.specs.declared.peer.Peer.{Peer}
 use Rattle.cp_step.specs.declared.role.Role.TheVariants.{Leader}
 use Rattle.cp_step.specs.Volatile.{VolatileState, no_votes, no_reads, new_peer, started}
-use Rattle.cp_step.specs.Local.{Body, Append, AppendReply, Snapshot, SnapshotReply, Event, Tick, Got, Propose, ChangeMembers}
-use Rattle.cp_step.specs.Worked.{Group, Mail, Act, At, Deliver, mail, group_after, configured, nothing_stored, new_group, empty, entry, call, tick, add, adds, addition, added}
+use Rattle.cp_step.specs.Local.{Body, Append, AppendReply, Snapshot, SnapshotReply, Tick, Got, Propose, ChangeMembers}
+use Rattle.cp_step.specs.Worked.{Group, Mail, Act, At, Deliver, mail, group_after, configured, nothing_stored, new_group, empty, entry, call, tick, add, addition, added}
 use Rattle.cp_step.proofs.Standing.{Told, Stands, Takes, then_one, then_deliver_one, then_deliver_two}
 
 -- ---- bytes and members as they are

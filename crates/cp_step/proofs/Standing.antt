@@ -1,5 +1,5 @@
 -- Histories told step by step: what the first two members of a small group have after each act, and what was sent.
-use Rattle.std.proofs.Common.{◌≡◌, ℕ, ◌-◌, List, ◌∷◌, ◌++◌, map, refl, ap, ap₂, sym, ◌∙◌, subst, Some, slice_get}
+use Rattle.std.proofs.Common.{◌≡◌, ℕ, ◌-◌, List, ◌∷◌, ◌++◌, map, ap, ap₂, sym, ◌∙◌, subst, Some, slice_get}
 use Rattle.cp_store_state.specs.Persistent.{PersistentState}
 use Rattle.cp_step.specs.Persistent.{after_part}
 use Rattle.cp_step.specs.Volatile.{VolatileState}

@@ -7,7 +7,7 @@ use Rattle.std.proofs.lemmas.List.Elements.{Contains-append_left, Contains-appen
 use Rattle.cp_rules.specs.Clusters.{Member, Step, put, cluster_after, IsMoment}
 use Rattle.cp_agreement.proofs.Ghost.{put_same, put_other}
 use Rattle.cp_safety.specs.Tracking as tracking
-use Rattle.cp_safety.specs.Tracking.{TrackedMember, restarted, untracked}
+use Rattle.cp_safety.specs.Tracking.{untracked}
 use Rattle.cp_safety.specs.Chunks.{ChunkedMember, ChunkedCluster, ChunkedStep, Wire, chunked_restart, chunked_after, MembersThrough}
 use Rattle.cp_safety.proofs.Lists.{contains_map, contains_unmap}
 use Rattle.cp_safety.proofs.Chunks.{chunked_executions}

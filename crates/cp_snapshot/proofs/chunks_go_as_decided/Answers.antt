@@ -1,0 +1,5 @@
+use Rattle.cp_snapshot.proofs.Rules.{chunks_go_as_decided as law}
+use Rattle.cp_snapshot.proofs.chunks_go_as_decided.Goals as goal
+
+pub returns : goal.returns
+returns c = law

@@ -1,0 +1,77 @@
+//! What a leader sends of its snapshot.
+ghost use Rattle.std.specs.Prelude.{◌≡◌, ◌≤◌, length, take, drop, nat_le};
+ghost use Rattle.cp_step.specs.Limits.{chunk_bytes, most_snapshot};
+ghost use Rattle.cp_step.specs.Sending.{chunk, is_last_chunk};
+ghost use Rattle.cp_step.specs.Snapshots.{from_start};
+ghost use Rattle.cp_snapshot.specs.Decisions.{goes_on};
+
+use cp_step::Peer;
+
+/// The most bytes of a chunk.
+const CHUNK_BYTES: usize = 32_768;
+
+/// The most bytes that a snapshot may have: 2^26 - 64.
+const MOST_SNAPSHOT: usize = (1 << 26) - 64;
+
+/// The bytes from an offset on.
+fn from_offset(bytes: &[u8], offset: u32) -> &[u8]
+    requires { offset ≤ length bytes.now }
+    ensures { result.now ≡ drop offset bytes.now }
+{
+    &bytes[offset as usize..]
+}
+
+/// The first bytes, as many as a chunk has.
+fn front(bytes: &[u8]) -> &[u8]
+    ensures { result.now ≡ take chunk_bytes bytes.now }
+{
+    if bytes.len() <= CHUNK_BYTES {
+        bytes
+    } else {
+        &bytes[..CHUNK_BYTES]
+    }
+}
+
+/// The piece of a snapshot from an offset on, at most 32,768 bytes, and whether it reaches the end.
+pub fn chunk(bytes: &[u8], offset: u32) -> (&[u8], bool)
+    requires { offset ≤ length bytes.now }
+    ensures piece { result.0.now ≡ chunk bytes.now offset }
+    ensures last { result.1 ≡ is_last_chunk bytes.now offset }
+{
+    let rest = from_offset(bytes, offset);
+    (front(rest), rest.len() <= CHUNK_BYTES)
+}
+
+/// Whether a snapshot of so many bytes may be written.
+pub fn fits(length: usize) -> bool
+    ensures { result ≡ nat_le length most_snapshot }
+{
+    length <= MOST_SNAPSHOT
+}
+
+/// What a leader keeps of a member that has received so many bytes of the snapshot of an index, and is sent the chunk
+/// there; none where that says nothing new. Its own snapshot has this base as its index, and so many bytes.
+pub fn goes_on(peer: Peer, base: u64, length: usize, index: u64, received: u32) -> Option<Peer>
+    ensures { result ≡ goes_on peer base length index received }
+{
+    if index == base && received as usize <= length && peer.next <= base {
+        Some(Peer {
+            next: peer.next,
+            matched: peer.matched,
+            offset: received,
+        })
+    } else {
+        None
+    }
+}
+
+/// What a leader keeps of a member where it has a new snapshot.
+pub fn from_start(peer: Peer) -> Peer
+    ensures { result ≡ from_start peer }
+{
+    Peer {
+        next: peer.next,
+        matched: peer.matched,
+        offset: 0,
+    }
+}

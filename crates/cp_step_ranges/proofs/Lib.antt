@@ -1,0 +1,10 @@
+pub mod Members
+pub mod Basics
+pub mod Rules
+pub mod Leaders
+pub mod Followers
+pub mod Ticks
+pub mod Steps
+pub mod Bodies
+pub mod Parts
+pub mod Laws
