@@ -1,0 +1,4 @@
+pub mod Committed
+pub mod Entries
+pub mod Doing
+pub mod Members

@@ -1,0 +1,6 @@
+use Rattle.std.proofs.Common.{◌≡◌, ◌++◌, map, take, drop, length}
+use Rattle.cp_step.specs.Snapshots.{from_start}
+use Rattle.cp_raft_state.proofs.changing.send_from_start.Given as goal
+
+abbrev pub invariant-loop-member : goal.invariant-loop-member
+invariant-loop-member l = l.peers ≡ map from_start (take l.member l.fn.peers) ++ drop l.member l.fn.peers

@@ -1,0 +1,23 @@
+//! What one member of a group keeps in memory alone, with one function for each change that a rule makes of it; and the
+//! messages that it sends.
+#![tactic(auto)]
+
+mod changing;
+mod did;
+mod look;
+mod posting;
+mod reading;
+mod receiving;
+mod seat;
+mod volatile;
+mod waiting;
+
+pub use did::{Did, done, refused};
+pub use look::Look;
+pub use posting::{
+    append_body, append_reply, chunk_body, confirm_body, confirmed, post, pre_vote_body,
+    pre_vote_reply, snapshot_reply, vote_body, vote_reply,
+};
+pub use receiving::Joined;
+pub use seat::Seat;
+pub use volatile::Volatile;
