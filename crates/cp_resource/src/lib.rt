@@ -5,8 +5,6 @@ mod lawful;
 mod machine;
 mod snapshot;
 mod steps;
-#[cfg(test)]
-mod tests;
 mod timing;
 
 pub use machine::GroupMachine;
