@@ -8,7 +8,7 @@ is_stale() {
 }
 if is_stale; then
     log="$(mktemp)"
-    echo "cp: proving and building the program, which can take some minutes .." >&2
+    echo "cp: proving and building the program, which on a fresh machine can take an hour .." >&2
     # Without words the program only says how it is used.
     (cd "$top/crates/cp_tool" && rt run) > "$log" 2>&1 < /dev/null
     if is_stale; then
