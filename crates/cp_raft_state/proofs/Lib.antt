@@ -1,2 +1,3 @@
 pub mod Progresses
 pub mod Places
+pub mod Ready

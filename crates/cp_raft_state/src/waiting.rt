@@ -1,5 +1,6 @@
 //! Reads that wait.
-ghost use Rattle.std.specs.Prelude.{◌≡◌, ◌<◌, ◌-◌, ◌^◌, filter, not, IfOk, OnOk};
+ghost use Rattle.std.specs.Prelude.{◌≡◌, ◌<◌, ◌-◌, ◌^◌, [], filter, not, IfOk, IsOk, OnOk};
+ghost use Rattle.std.specs.List.{list_any};
 ghost use Rattle.cp_replicate.specs.Decisions.{is_ready};
 ghost use Rattle.cp_step.specs.Confirming as confirming;
 ghost use Rattle.cp_step.specs.Confirming.{with_round};
@@ -20,8 +21,17 @@ fn is_ready_now(me: u8, members: &[u8], confirmed: &[u64; 10], commit: u64, look
     is_ready(me, members, confirmed, commit, look.index(), look.round())
 }
 
+/// Whether any of these reads is ready.
+fn has_ready(me: u8, members: &[u8], confirmed: &[u64; 10], commit: u64, looks: &[Look]) -> bool
+    ensures { result ≡ list_any (ready me members.now confirmed.now commit) looks.now }
+{
+    looks
+        .iter()
+        .any(|look| is_ready_now(me, members, confirmed, commit, look))
+}
+
 /// Takes out the reads that are ready, in their order.
-fn take_ready(
+fn split_ready(
     alloc: Global,
     me: u8,
     members: &[u8],
@@ -44,6 +54,27 @@ fn take_ready(
     }
     *looks = waiting;
     Ok(taken)
+}
+
+/// Takes out the reads that are ready, in their order. Where none is, it takes no memory.
+#[tactic(auto, using(crate::proofs::Ready::none_passes, crate::proofs::Ready::passes_none))]
+fn take_ready(
+    alloc: Global,
+    me: u8,
+    members: &[u8],
+    confirmed: &[u64; 10],
+    commit: u64,
+    looks: &mut Vec<Look>,
+) -> Result<Vec<Look>, NoMemory>
+    ensures ready { IfOk result (λ taken. taken.items ≡ filter (ready me members.now confirmed.now commit) looks.old.items) }
+    ensures waiting { OnOk result (looks.new.items ≡ filter (λ look. not (ready me members.now confirmed.now commit look)) looks.old.items) }
+    ensures frugal { filter (ready me members.now confirmed.now commit) looks.old.items ≡ [] → IsOk result }
+{
+    if has_ready(me, members, confirmed, commit, looks) {
+        split_ready(alloc, me, members, confirmed, commit, looks)
+    } else {
+        Ok(Vec::new(alloc))
+    }
 }
 
 impl Volatile {
@@ -91,7 +122,7 @@ impl Volatile {
         self.looks.clear();
     }
 
-    /// Tells the reads that are ready, and keeps the others.
+    /// Tells the reads that are ready, and keeps the others. Where none is ready, it takes no memory.
     pub fn take_ready(
         &mut self,
         alloc: Global,
@@ -100,6 +131,7 @@ impl Volatile {
     ) -> Result<Vec<Look>, NoMemory>
         ensures looks { IfOk result (λ looks. looks.items ≡ filter (confirming.is_ready me members.now self.old.reads self.old.commit) self.old.reads.looks) }
         ensures state { OnOk result (self.new ≡ without_ready me members.now self.old) }
+        ensures frugal { filter (confirming.is_ready me members.now self.old.reads self.old.commit) self.old.reads.looks ≡ [] → IsOk result }
     {
         let looks = take_ready(
             alloc,

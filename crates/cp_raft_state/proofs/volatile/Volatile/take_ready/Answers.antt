@@ -1,4 +1,4 @@
-use Rattle.std.proofs.Common.{◌≡◌, ◌∙◌, ap, List}
+use Rattle.std.proofs.Common.{◌≡◌, ◌∙◌, ap, sym, true≢false, List}
 use Rattle.std.specs.Prelude.{filter}
 use Rattle.cp_snapshot.specs.Assemblers as assemblers
 use Rattle.cp_step.specs.Confirming as confirming
@@ -27,3 +27,6 @@ returns-clause-state c =
       reads = record { round = here.round; confirmed = here.confirmed; looks = looks };
     } in
     ap with_looks c.in_ok-looks.ensures.waiting ∙ ap (without_ready c.args.me c.args.members.now) c.self.view_is
+
+pub returns-in_err-looks-clause-frugal : goal.returns-in_err-looks-clause-frugal
+returns-in_err-looks-clause-frugal c = λ none. absurd (true≢false (sym (c.in_err-looks.ensures.frugal (ap (λ (v : VolatileState). filter (confirming.is_ready c.args.me c.args.members.now v.reads v.commit) v.reads.looks) c.self.view_is ∙ none))))

@@ -3,7 +3,7 @@ use Rattle.std.specs.Prelude.{filter, not}
 use Rattle.std.specs.Vec.Iter.{into_iter_items}
 use Rattle.cp_step.specs.Volatile as step
 use Rattle.cp_raft_state.specs.Looking.{ready}
-use Rattle.cp_raft_state.proofs.waiting.take_ready.Given as goal
+use Rattle.cp_raft_state.proofs.waiting.split_ready.Given as goal
 
 abbrev pub invariant-loop-look : goal.invariant-loop-look
 invariant-loop-look l =

@@ -1,0 +1,11 @@
+pub mod Ticks
+pub mod Leaving
+pub mod Decisions
+pub mod Stepping
+pub mod Elections
+pub mod Heads
+pub mod Beats
+pub mod Others
+pub mod Downs
+pub mod Voting
+pub mod Ballots

@@ -1,0 +1,13 @@
+pub mod Groups
+pub mod Events
+pub mod Outs
+pub mod Offices
+pub mod Downs
+pub mod Rafts
+pub mod Taking
+pub mod Settling
+pub mod Deciding
+pub mod Writing
+pub mod Completing
+pub mod Ticking
+pub mod Frugal

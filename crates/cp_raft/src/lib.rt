@@ -1,0 +1,17 @@
+//! One member of one Raft group: each step does what its definition in `cp_step` says, over the member's store.
+#![tactic(auto)]
+
+mod deciding;
+mod electing;
+mod event;
+mod messages;
+mod out;
+mod raft;
+mod settling;
+mod snapshots;
+mod stored;
+mod ticking;
+
+pub use event::RaftEvent;
+pub use out::RaftOut;
+pub use raft::Raft;
