@@ -1,13 +1,20 @@
 //! Applies as many times 100,000 entries of all kinds, over 10,000 rows, as it is given words. Where the first word is `check`, 10,000
 //! sessions ask for one lock instead: one owns it, 9,999 calls wait and one more of another thread, the next is turned away, and the
-//! owner's session is closed. The status is 0 where all are answered as they must be.
+//! owner's session is closed. The status is 0 where all are answered as they must be. Then the rows of the standard input are applied
+//! to one new machine, and what they are answered is printed. Each row is one line: the index of an entry and the entry's bytes, as
+//! hexadecimal digits that spaces may part, or `look` and the bytes of a read that needs no entry. Lines that begin with `#` are
+//! comments. A line that is no row gives status 1, and then nothing is printed.
 #![tactic(auto)]
 
 ghost use Rattle.std.specs.Prelude.{◌≤◌, ◌^◌};
 
+mod rows;
+
 use cp_answers::Answer;
 use cp_base::{Invocation, Items, NoMemory};
+use cp_io::{Reading, Writing};
 use cp_resource::GroupMachine;
+use rows::{RowsEnd, show_rows};
 use std::alloc::{AllocError, Global};
 use std::env;
 use std::process::ExitCode;
@@ -207,16 +214,28 @@ fn words_of(rt: &(impl Env + AllocGlobal)) -> Option<Vec<String>> {
     Some(words)
 }
 
+/// The status of rows that were shown, or not to their end.
+fn status_of(shown: Result<(), RowsEnd>) -> u8 {
+    match shown {
+        Ok(()) => 0,
+        Err(RowsEnd::BadInput) => 1,
+        Err(RowsEnd::NoMemory) => 4,
+        Err(RowsEnd::WriteFault) => 5,
+    }
+}
+
 fn main(rt: HostRuntime) -> ExitCode {
     let alloc = rt.alloc();
     let Some(words) = words_of(&rt) else {
         return ExitCode::from(1);
     };
     if is_check(&words) {
-        return match answers_as_it_must(alloc) {
-            Ok(true) => ExitCode::from(0),
-            _ => ExitCode::from(3),
+        let Ok(true) = answers_as_it_must(alloc) else {
+            return ExitCode::from(3);
         };
+        let mut source = Reading::new(rt.stdin());
+        let mut sink = Writing::new(rt.stdout());
+        return ExitCode::from(status_of(show_rows(alloc, &mut source, &mut sink)));
     }
     let Ok(mut machine) = GroupMachine::begin(alloc) else {
         return ExitCode::from(2);

@@ -78,6 +78,11 @@ impl Group {
         }
     }
 
+    /// Whether the last step wrote a part.
+    pub fn wrote(&self) -> bool {
+        self.out.wrote
+    }
+
     /// The messages that are not handed over yet, lent.
     pub fn messages(&self) -> &[Message] {
         &self.queue

@@ -68,6 +68,15 @@ impl Lines {
         Ok(())
     }
 
+    /// Tells that a member wrote a part, if it did.
+    pub fn wrote(&mut self, member: u8, wrote: bool) -> Result<(), NoMemory> {
+        if wrote {
+            append_word(b"wrote m", u64::from(member), &mut self.text)?;
+            self.text.extend_from_slice(b"\n")?;
+        }
+        Ok(())
+    }
+
     /// The text.
     pub fn into_text(self) -> Vec<u8> {
         let Lines {

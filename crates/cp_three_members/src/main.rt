@@ -1,10 +1,12 @@
 //! Three members of one group in one process, whose messages are handed over in their order.
 //!
-//! With no word: the first member is elected, and one entry is committed; and in another group, the third member is removed after the
-//! election. What is sent and committed is told. With `bench` and a number: so many entries are committed at all three.
+//! With no word, four groups one after another: the first member is elected, and one entry is committed; the third member is removed
+//! after the election; a follower is handed an entry twice; a follower is handed pieces of two snapshots. What is sent, committed and, in
+//! the last two, written is told. With `bench` and a number: so many entries are committed at all three.
 #![tactic(auto)]
 
 mod coming;
+mod following;
 mod group;
 mod lines;
 mod member;
@@ -12,6 +14,7 @@ mod running;
 
 use cp_base::read_decimal;
 use cp_io::{Writing, write_all};
+use following::{install, repeat};
 use running::{bench, elect, shrink};
 use std::alloc::Global;
 use std::env;
@@ -60,14 +63,22 @@ fn status(done: bool) -> ExitCode {
     }
 }
 
-/// The lines of both groups.
-fn told(alloc: Global) -> Option<Vec<u8>> {
-    let mut text = elect(alloc)?;
-    let more = shrink(alloc)?;
-    match text.extend_from_slice(&more) {
-        Ok(()) => Some(text),
-        Err(_) => None,
+/// Appends the lines of a group.
+fn add(lines: Option<Vec<u8>>, text: &mut Vec<u8>) -> bool {
+    match lines {
+        Some(lines) => text.extend_from_slice(&lines).is_ok(),
+        None => false,
     }
+}
+
+/// The lines of all groups.
+fn told(alloc: Global) -> Option<Vec<u8>> {
+    let mut text = Vec::new(alloc);
+    let done = add(elect(alloc), &mut text)
+        && add(shrink(alloc), &mut text)
+        && add(repeat(alloc), &mut text)
+        && add(install(alloc), &mut text);
+    if done { Some(text) } else { None }
 }
 
 fn main(rt: HostRuntime) -> ExitCode {

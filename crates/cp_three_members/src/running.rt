@@ -26,7 +26,7 @@ fn stand(alloc: Global, group: &mut Group, lines: &mut Lines) -> bool {
 }
 
 /// Hands a message over, and tells what comes of it.
-fn deliver(alloc: Global, group: &mut Group, message: Message, lines: &mut Lines) -> bool {
+pub fn deliver(alloc: Global, group: &mut Group, message: Message, lines: &mut Lines) -> bool {
     let to = message.to;
     let before = group.commit(to);
     let old = group.messages().len();
