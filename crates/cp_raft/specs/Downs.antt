@@ -1,5 +1,6 @@
 -- Why a member is down after a step.
-use Rattle.std.specs.Prelude.{ℕ}
+use Rattle.std.specs.Prelude.{ℕ, Bool, true, false, Ok, Err}
+use Rattle.std.specs.declared.result.Result.{Result}
 use Rattle.cp_words.specs.Faults.{Rose}
 use Rattle.cp_log.specs.declared.error.StoreError.{StoreError}
 use Rattle.cp_log.specs.declared.error.StoreError.TheVariants as error
@@ -21,3 +22,13 @@ of_store error.Full = down.JournalFull
 of_store (error.BadFrame place) = down.BadFrame place
 of_store (error.BadRecord place) = down.BadRecord place
 of_store error.NoMemory = down.NoMemory
+
+-- A disk that failed leaves a store that is spent; nothing else does.
+abbrev pub is_disk_fault : {T : Type 0} → Result T Down → Bool
+is_disk_fault (Ok x) = false
+is_disk_fault (Err down.DiskFault) = true
+is_disk_fault (Err down.JournalFull) = false
+is_disk_fault (Err (down.BadFrame place)) = false
+is_disk_fault (Err (down.BadRecord place)) = false
+is_disk_fault (Err (down.BadSnapshot group)) = false
+is_disk_fault (Err down.NoMemory) = false

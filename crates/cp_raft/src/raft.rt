@@ -22,7 +22,7 @@ ghost use Rattle.cp_step_ranges.specs.Laws.{MayStep};
 ghost use Rattle.cp_step_ranges.specs.Ranges.{IsInRange};
 ghost use Rattle.cp_raft_state.specs.Room.{spare};
 ghost use Rattle.cp_raft.specs.Completing.{completed};
-ghost use Rattle.cp_raft.specs.Downs.{StepCause, of_store};
+ghost use Rattle.cp_raft.specs.Downs.{StepCause, is_disk_fault, of_store};
 ghost use Rattle.cp_raft.specs.Events.{event_of};
 ghost use Rattle.cp_raft.specs.Frugal.{NoneReady, is_voting};
 ghost use Rattle.cp_raft.specs.Offices.{takes_office};
@@ -78,7 +78,9 @@ fn write<D: Disk>(alloc: Global, store: &mut Store<D>, part: &Option<Part>) -> R
     ensures sound { IfSome part.now (λ x. D.Told → LeavesOnly D.moment D.left_since (disk_of store.old) (disk_of store.new) (IsSound (first_of store.old))) }
     ensures durable { IfSome part.now (λ x. D.Told → is_spent store.new ≡ false → Only (D.seen (disk_of store.new)) (D.may_leave (disk_of store.new))) }
     ensures cause { IfErr result (StepCause (D.faults (disk_of store.old)) (D.faults (disk_of store.new))) }
-    ensures spent { OnOk result (is_spent store.new ≡ false) }
+    ensures later { (D.faults (disk_of store.old) ≤ D.faults (disk_of store.new)) × (D.starved (disk_of store.old) ≤ D.starved (disk_of store.new)) }
+    ensures orders { D.orders (disk_of store.new) ≡ D.orders (disk_of store.old) }
+    ensures spent { is_spent store.new ≡ is_disk_fault result }
     ensures full { IsErrOf result down.JournalFull → PassesBound (bytes_of store.old) part.now }
     ensures only_full { PassesBound (bytes_of store.old) part.now → IsErrOf result down.JournalFull ⊎ IsErrOf result down.NoMemory }
     ensures frugal { IfSome part.now (λ x. is_state x ≡ true) → IsErrOf result down.NoMemory → Rose (D.starved (disk_of store.old)) (D.starved (disk_of store.new)) }
@@ -100,6 +102,15 @@ fn is_installed(event: &RaftEvent, part: &Option<Part>) -> bool
         (RaftEvent::Got(_), Some(Part::Snapshot(_, _, _, _, _))) => true,
         _ => false,
     }
+}
+
+/// Hands nothing over.
+fn give_up(out: &mut RaftOut)
+    ensures { (out.new.messages.items ≡ []) × ((out.new.answered.items ≡ []) × (out.new.lost.items ≡ [])) }
+{
+    out.messages.clear();
+    out.answered.clear();
+    out.lost.clear();
 }
 
 /// Says what a step did.
@@ -181,7 +192,7 @@ impl Raft {
     }
 
     /// Takes one step: it writes its part, and hands over what it sends, in place of what `out` had. Where the member is
-    /// down, nothing is sent, and its state in memory is not promised.
+    /// down, nothing is handed over, and its state in memory is not promised.
     pub fn step<D: Disk>(
         &mut self,
         alloc: Global,
@@ -201,15 +212,21 @@ impl Raft {
         ensures held { (e : Event) → event_of event.now ≡ Some e → OnOk result (held_by store.new ≡ after_step (seat_of self.old) (step (seat_of self.old).me (group_in (held_by store.old) (seat_of self.old).group.0) (state_of self.old) e).part (held_by store.old)) }
         ensures told { (e : Event) → event_of event.now ≡ Some e → OnOk result (IsTold (seat_of self.old) (state_of self.old) e (step (seat_of self.old).me (group_in (held_by store.old) (seat_of self.old).group.0) (state_of self.old) e) out.new) }
         ensures seat { seat_of self.new ≡ seat_of self.old }
-        ensures spent { OnOk result (is_spent store.new ≡ false) }
+        ensures first { first_of store.new ≡ first_of store.old }
+        ensures spent { is_spent store.new ≡ is_disk_fault result }
+
+        // Once it answered Ok, every crash leaves its part.
+        ensures durable { (e : Event) (x : Written) → event_of event.now ≡ Some e → (step (seat_of self.old).me (group_in (held_by store.old) (seat_of self.old).group.0) (state_of self.old) e).part ≡ Some x → D.Told → OnOk result (Only (D.seen (disk_of store.new)) (D.may_leave (disk_of store.new))) }
 
         // So the next step may be taken.
         ensures stays { (e : Event) → event_of event.now ≡ Some e → OnOk result (MayGoOn (held_by store.new) (seat_of self.new) (state_of self.new)) }
 
-        // Where it is down nothing is sent, and the journal stands for what it stood for.
-        ensures nothing_sent { OnErr result (out.new.messages.items ≡ []) }
+        // Where it is down nothing is handed over, and the store has what it had.
+        ensures nothing_sent { OnErr result ((out.new.messages.items ≡ []) × ((out.new.answered.items ≡ []) × (out.new.lost.items ≡ []))) }
         ensures nothing_held { OnErr result (held_by store.new ≡ held_by store.old) }
         ensures cause { IfErr result (StepCause (D.faults (disk_of store.old)) (D.faults (disk_of store.new))) }
+        ensures later { (D.faults (disk_of store.old) ≤ D.faults (disk_of store.new)) × (D.starved (disk_of store.old) ≤ D.starved (disk_of store.new)) }
+        ensures orders { D.orders (disk_of store.new) ≡ D.orders (disk_of store.old) }
 
         // It is full exactly where the file would pass its bound, unless memory runs out before.
         ensures full { (e : Event) → event_of event.now ≡ Some e → IsErrOf result down.JournalFull → PassesBound (bytes_of store.old) (option_map (part_of (seat_of self.old).group) (step (seat_of self.old).me (group_in (held_by store.old) (seat_of self.old).group.0) (state_of self.old) e).part) }
@@ -232,12 +249,12 @@ impl Raft {
             Ok(did) => did,
             Err(NoMemory) => {
                 self.state.give_up_reads();
-                out.messages.clear();
+                give_up(out);
                 return Err(Down::NoMemory);
             }
         };
         if let Err(down) = write(alloc, store, &did.part) {
-            out.messages.clear();
+            give_up(out);
             return Err(down);
         }
         tell(event, before, &did.part, &self.state, out);
