@@ -1,5 +1,7 @@
 -- What answers do, case by case.
-use Rattle.std.proofs.Common.{◌≡◌, ℕ, Bool, true, false, Option, Some, None, refl, cond}
+use Rattle.std.proofs.Common.{◌≡◌, ℕ, ◌==◌, Bool, true, false, List, [], length, Option, Some, None, refl, cond}
+use Rattle.std.proofs.lemmas.Bool.{eqb-true}
+use Rattle.std.proofs.lemmas.List.{nil_from_length}
 use Rattle.cp_base.specs.declared.identifier.GroupId.{GroupId}
 use Rattle.cp_answers.specs.declared.answer.Answer.{Answer}
 use Rattle.cp_answers.specs.declared.answer.Answer.TheVariants as answer
@@ -43,3 +45,6 @@ module _ (g : GroupId) (sessions : Sessions) where
   pub forgotten_after : (o : UserOp) (p : Purpose) (a : Answer) → sessions_after g o p a sessions ≡ forgotten (closed_by o p a) a
   forgotten_after (user.CloseSession name) (purpose.ForItself s) answer.Ok = refl
   forgotten_after o p a = refl
+
+pub no_items : {X : Type 0} (xs : List X) → (length xs == 0) ≡ true → xs ≡ []
+no_items xs e = nil_from_length xs (eqb-true (length xs) 0 e)

@@ -17,7 +17,6 @@ use cp_base::{ClientId, Invocation, Name, NoMemory, ThreadNo};
 use cp_client_rules::{Pending, Purpose, Thread};
 use cp_events::{Ending, Plan, Return, UserOp};
 use cp_ops::{LatchOp, Op, SessionOp};
-use cp_table::put_row;
 
 /// A call ends without an answer this long after it would have waited, in milliseconds.
 const PATIENCE: u64 = 60_000;
@@ -59,7 +58,7 @@ pub fn ask(
         number,
         pending: Some(now),
     };
-    put_row(&mut client.threads, thread.0, row)?;
+    threads::write(&mut client.threads, thread, row)?;
     let call = Invocation {
         client: me,
         thread,
@@ -79,7 +78,7 @@ fn done_at_once(client: &mut Client, thread: ThreadNo, out: &mut ClientOut) -> R
         number,
         pending: None,
     };
-    put_row(&mut client.threads, thread.0, row)?;
+    threads::write(&mut client.threads, thread, row)?;
     out.returns.push(Return {
         thread,
         number,

@@ -54,4 +54,23 @@ impl ClientOut {
             returns: Items::new(alloc),
         }
     }
+
+    /// Nothing again, in the memory that there is.
+    pub fn clear(&mut self, alloc: Global)
+        ensures { self.new ≡ record { asked = []; opened = []; returns = [] } }
+    {
+        empty(alloc, &mut self.asked);
+        empty(alloc, &mut self.opened);
+        empty(alloc, &mut self.returns);
+    }
+}
+
+/// Empties a list.
+fn empty<T: Drop>(alloc: Global, items: &mut Items<T>)
+    ensures { items.new ≡ [] }
+{
+    if items.is_empty() {
+        return;
+    }
+    *items = Items::new(alloc);
 }

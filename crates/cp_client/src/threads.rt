@@ -5,8 +5,9 @@ ghost use Rattle.cp_group_state.specs.Rows.{find, put};
 ghost use Rattle.cp_client_rules.specs.Clients.{or_new};
 ghost use Rattle.cp_client.specs.Threads.{is_open, open_number, idle_row};
 
-use cp_base::{Invocation, ThreadNo};
+use cp_base::{Invocation, NoMemory, ThreadNo};
 use cp_client_rules::{Pending, Thread};
+use cp_table::put_row;
 use std::collections::BTreeMap;
 use std::mem;
 
@@ -59,5 +60,22 @@ pub fn take_pending(threads: &mut BTreeMap<u8, Thread>, thread: ThreadNo) -> Opt
             mem::replace(row, idle).pending
         }
         None => None,
+    }
+}
+
+/// Writes the row of a thread.
+pub fn write(
+    threads: &mut BTreeMap<u8, Thread>,
+    thread: ThreadNo,
+    row: Thread,
+) -> Result<(), NoMemory>
+    ensures { OnOk result (threads.new.entries ≡ put nat_cmp threads.old.entries thread.0 row) }
+{
+    match threads.get_mut(&thread.0) {
+        Some(place) => {
+            *place = row;
+            Ok(())
+        }
+        None => put_row(threads, thread.0, row),
     }
 }

@@ -10,12 +10,15 @@ use cp_call_words::put_shown_user_op;
 use cp_events::{Event, UserOp};
 use cp_op_values::append_numbered;
 
+/// Most calls are shorter than this, in bytes.
+const USUAL: usize = 128;
+
 /// Appends a call as it is shown, with its line feed.
 fn append_call(op: &UserOp, out: &mut Vec<u8>) -> Result<(), NoMemory>
     ensures ok { OnOk result (out.new.items ≡ out.old.items ++ call_text (shown op.now)) }
     ensures grew { Grew out.old.items out.new.items }
 {
-    let mut call = Vec::new(*out.allocator());
+    let mut call = Vec::with_capacity(*out.allocator(), USUAL)?;
     put_shown_user_op(op, &mut call)?;
     out.extend_from_slice(&call)?;
     Ok(())

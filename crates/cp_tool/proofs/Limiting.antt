@@ -1,5 +1,5 @@
 -- Where a run keeps the limits, and where it passes one.
-use Rattle.std.proofs.Common.{◌≡◌, ◌≤◌, ◌<◌, ◌+◌, ◌^◌, ℕ, List, [], ◌∷◌, ◌++◌, length, take, drop, get_or, zero, suc, Some, None, refl, sym, ◌∙◌, ap, subst, append_assoc, length-append, length-drop, arith}
+use Rattle.std.proofs.Common.{◌≡◌, ◌≤◌, ◌<◌, ◌+◌, ◌^◌, ℕ, List, [], ◌∷◌, ◌++◌, length, take, get_or, zero, suc, Some, None, refl, sym, ◌∙◌, ap, subst, append_assoc, length-append, arith}
 use Rattle.std.specs.Prelude.{slice_get}
 use Rattle.std.proofs.lemmas.List.{take_more, take_all}
 use Rattle.cp_events.specs.declared.event.Event.{Event}
@@ -65,9 +65,6 @@ next_events lines i l within is =
     ∙ ap (λ x. events_of (take i lines ++ x ∷ [])) is
     ∙ ap events_of (sym (take_more lines i l within))
 
-no_line : (l : Line) (rest : List Line) → [] ≡ l ∷ rest → ⊥
-no_line l rest same = cc
-
 no_limit : (name : LimitName) → Some name ≡ None → ⊥
 no_limit name same = cc
 
@@ -75,16 +72,6 @@ no_limit name same = cc
 pub kept_more : (plan : Plan) (lines : List Line) (i : ℕ) → KeepsLimits plan lines i → passed plan (events_of (take (i + 1) lines)) ≡ None → KeepsLimits plan lines (i + 1)
 kept_more plan lines i kept here k within =
     below_more (λ n. passed plan (events_of (take n lines)) ≡ None) (i + 1) (λ n before. kept n (omega arith)) here k (omega arith)
-
--- the next of the lines that are left
-pub next_line : (lines : List Line) (i : ℕ) (l : Line) (rest : List Line) → drop i lines ≡ l ∷ rest → (i < length lines) × (l ≡ get_or lines i l) × (drop (i + 1) lines ≡ rest)
-next_line [] zero l rest is = absurd (no_line l rest is)
-next_line [] (suc i) l rest is = absurd (no_line l rest is)
-next_line (x ∷ lines) zero l rest is = (omega arith, cc, cc)
-next_line (x ∷ lines) (suc i) l rest is =
-    let further = next_line lines i l rest is in
-    let one : suc i + 1 ≡ suc (i + 1) = omega arith in
-    (omega (arith, further.0), further.1, rw one further.2)
 
 stands : (lines : List Line) (i : ℕ) (l : Line) → i < length lines → slice_get lines i ≡ Some (get_or lines i l)
 stands [] i l within = absurd (omega arith)
@@ -112,13 +99,9 @@ limit_here plan lines i number (line.One e) name r within is at runs kept halts 
 }
 
 -- no line is left
-none_left : (lines : List Line) (i : ℕ) (rest : List Line) → drop i lines ≡ rest → length rest ≡ 0 → length lines ≤ i
-none_left lines i rest left none = let behind = length-drop i lines in let same = ap length left in omega (arith, behind, same, none)
-
-pub runs_all : (plan : Plan) (lines : List Line) (i : ℕ) (rest : List Line) (r : Running) → drop i lines ≡ rest → length rest ≡ 0
+pub runs_all : (plan : Plan) (lines : List Line) (i : ℕ) (r : Running) → length lines ≤ i
     → Runs plan (events_of (take i lines)) r → Runs plan (events_of lines) r
-runs_all plan lines i rest r left none runs = subst (λ ls. Runs plan (events_of ls) r) (take_all i lines (none_left lines i rest left none)) runs
+runs_all plan lines i r none runs = subst (λ ls. Runs plan (events_of ls) r) (take_all i lines none) runs
 
-pub kept_all : (plan : Plan) (lines : List Line) (i : ℕ) (rest : List Line) → drop i lines ≡ rest → length rest ≡ 0
-    → KeepsLimits plan lines i → KeepsLimits plan lines (length lines)
-kept_all plan lines i rest left none kept = λ k within. let all = none_left lines i rest left none in kept k (omega (arith, all, within))
+pub kept_all : (plan : Plan) (lines : List Line) (i : ℕ) → length lines ≤ i → KeepsLimits plan lines i → KeepsLimits plan lines (length lines)
+kept_all plan lines i none kept = λ k within. kept k (omega (arith, none, within))

@@ -6,16 +6,16 @@ ghost use Rattle.cp_events.specs.declared.plan.Plan.{Plan};
 ghost use Rattle.cp_run.specs.Execution.{events_of};
 ghost use Rattle.cp_run.specs.Rows.{Committed};
 ghost use Rattle.cp_transcript.specs.Telling.{Tells, committed_at};
+ghost use Rattle.cp_world.specs.Following.{effects_of};
 ghost use Rattle.cp_tool.specs.Limits.{KeepsLimits, beyond, text_of};
 ghost use Rattle.cp_tool.specs.Running.{Follows, GoesOn, Halts, IsRunning, IsWhole, Runs, StopCause};
 
 use crate::status::LimitName;
-use cp_base::{Items, NoMemory};
-use cp_events::{Effects, Event, Line, Plan, Schedule};
-use cp_ops::Entry;
+use cp_base::NoMemory;
+use cp_events::{Event, Line, Plan, Schedule};
 use cp_schedule::line_of_event;
 use cp_transcript::Transcript;
-use cp_world::World;
+use cp_world::{Turn, World};
 use std::alloc::Global;
 
 /// The most events of a run.
@@ -28,6 +28,8 @@ const MOST_TEXT: u128 = 268_435_456;
 #[derive(Drop)]
 pub struct Running {
     pub world: World,
+    /// What the last event did.
+    pub turn: Turn,
     pub transcript: Transcript,
     /// How many events there were.
     pub events: u64,
@@ -55,43 +57,36 @@ fn open(alloc: Global) -> Result<Running, NoMemory>
 {
     Ok(Running {
         world: World::new(alloc)?,
+        turn: Turn::new(alloc),
         transcript: Transcript::new(alloc)?,
         events: 0,
     })
 }
 
 /// What an event shows, and the entries that it committed.
-fn print(transcript: &mut Transcript, effects: &Effects, entries: &[Entry]) -> Result<(), NoMemory>
-    requires { transcript.old.rows + length entries.now < 2 ^ 62 }
+fn print(transcript: &mut Transcript, event: &Event, turn: &Turn) -> Result<(), NoMemory>
+    requires { transcript.old.rows + length turn.now.entries < 2 ^ 62 }
     ensures { OnOk result ((shown : List Effects) (history : List Committed) → Tells shown history transcript.old
-        → Tells (shown ++ effects.now ∷ []) (history ++ committed_at effects.now.number entries.now) transcript.new) }
+        → Tells (shown ++ effects_of event.now turn.now ∷ []) (history ++ committed_at turn.now.number turn.now.entries) transcript.new) }
 {
-    transcript.add_effects(effects)?;
-    transcript.add_all_committed(effects.number, entries)?;
-    Ok(())
-}
-
-/// The same of values that are not wanted any more.
-fn print_last(
-    transcript: &mut Transcript,
-    effects: Effects,
-    entries: Items<Entry>,
-) -> Result<(), NoMemory>
-    requires { transcript.old.rows + length entries < 2 ^ 62 }
-    ensures { OnOk result ((shown : List Effects) (history : List Committed) → Tells shown history transcript.old
-        → Tells (shown ++ effects ∷ []) (history ++ committed_at effects.number entries) transcript.new) }
-{
-    print(transcript, &effects, entries.as_slice())?;
+    transcript.add_effects(
+        turn.number,
+        event,
+        &turn.ignored,
+        turn.opened.as_slice(),
+        turn.returns.as_slice(),
+    )?;
+    transcript.add_all_committed(turn.number, turn.entries.as_slice())?;
     Ok(())
 }
 
 /// An event happens, and is printed.
-fn show(running: &mut Running, plan: &Plan, event: Event) -> Result<(), NoMemory>
+fn show(running: &mut Running, plan: &Plan, event: &Event) -> Result<(), NoMemory>
     requires { IsRunning plan.now running.old }
-    ensures { OnOk result ((events : List Event) → Follows plan.now events running.old → Follows plan.now (events ++ event ∷ []) running.new) }
+    ensures { OnOk result ((events : List Event) → Follows plan.now events running.old → Follows plan.now (events ++ event.now ∷ []) running.new) }
 {
-    let (effects, entries) = running.world.step(plan, event)?;
-    print_last(&mut running.transcript, effects, entries)?;
+    running.world.step(plan, event, &mut running.turn)?;
+    print(&mut running.transcript, event, &running.turn)?;
     running.events += 1;
     Ok(())
 }
@@ -110,10 +105,10 @@ fn beyond(events: u64, bytes: u128) -> Option<LimitName>
 }
 
 /// An event, unless a quantity passes its limit there.
-fn step(running: &mut Running, plan: &Plan, event: Event) -> Result<(), Halt>
+fn step(running: &mut Running, plan: &Plan, event: &Event) -> Result<(), Halt>
     requires { IsRunning plan.now running.old }
-    ensures ok { OnOk result (GoesOn plan.now (event ∷ []) running.old running.new) }
-    ensures err { IfErr result (λ why. Halts why plan.now (event ∷ []) running.old) }
+    ensures ok { OnOk result (GoesOn plan.now (event.now ∷ []) running.old running.new) }
+    ensures err { IfErr result (λ why. Halts why plan.now (event.now ∷ []) running.old) }
 {
     match show(running, plan, event) {
         Ok(()) => {}
@@ -126,10 +121,10 @@ fn step(running: &mut Running, plan: &Plan, event: Event) -> Result<(), Halt>
 }
 
 /// A line behind the header. Nothing is ever sent, so nothing is settled.
-fn run_line(running: &mut Running, plan: &Plan, line: Line) -> Result<(), Halt>
+fn run_line(running: &mut Running, plan: &Plan, line: &Line) -> Result<(), Halt>
     requires { IsRunning plan.now running.old }
-    ensures ok { OnOk result (GoesOn plan.now (events_of (line ∷ [])) running.old running.new) }
-    ensures err { IfErr result (λ why. Halts why plan.now (events_of (line ∷ [])) running.old) }
+    ensures ok { OnOk result (GoesOn plan.now (events_of (line.now ∷ [])) running.old running.new) }
+    ensures err { IfErr result (λ why. Halts why plan.now (events_of (line.now ∷ [])) running.old) }
 {
     match line {
         Line::Settle(_) => Ok(()),
@@ -137,16 +132,16 @@ fn run_line(running: &mut Running, plan: &Plan, line: Line) -> Result<(), Halt>
     }
 }
 
-fn run_lines(running: &mut Running, plan: &Plan, lines: Items<Line>) -> Result<(), Stop>
+fn run_lines(running: &mut Running, plan: &Plan, lines: &[Line]) -> Result<(), Stop>
     requires begun { Runs plan.now [] running.old }
-    requires few { length lines < 2 ^ 62 }
+    requires few { length lines.now < 2 ^ 62 }
     requires limits { length plan.now.limits ≤ 16 }
-    ensures ok { OnOk result (Runs plan.now (events_of lines) running.new) }
-    ensures kept { OnOk result (KeepsLimits plan.now lines (length lines)) }
-    ensures err { IfErr result (StopCause plan.now lines) }
+    ensures ok { OnOk result (Runs plan.now (events_of lines.now) running.new) }
+    ensures kept { OnOk result (KeepsLimits plan.now lines.now (length lines.now)) }
+    ensures err { IfErr result (StopCause plan.now lines.now) }
 {
     let mut place: u64 = 0;
-    for line in lines.into_vec() {
+    for line in lines {
         match run_line(running, plan, line) {
             Ok(()) => place += 1,
             Err(Halt::Limit(name)) => return Err(Stop::Limit(line_of_event(plan, place), name)),
@@ -166,7 +161,7 @@ pub fn transcript(alloc: Global, schedule: Schedule) -> Result<Vec<u8>, Stop>
     let Ok(mut running) = open(alloc) else {
         return Err(Stop::NoMemory);
     };
-    match run_lines(&mut running, &plan, lines) {
+    match run_lines(&mut running, &plan, lines.as_slice()) {
         Ok(()) => {}
         Err(stop) => return Err(stop),
     }
@@ -181,6 +176,7 @@ fn close(running: Running) -> Result<Vec<u8>, NoMemory>
 {
     let Running {
         world: _,
+        turn: _,
         transcript,
         events: _,
     } = running;

@@ -6,7 +6,7 @@ ghost use Rattle.cp_words.specs.Text.{Grew};
 ghost use Rattle.cp_transcript.specs.Effects.{cause_text, effects_lines, ending_text, event_line, ignored_lines, opened_line, return_line};
 
 use cp_base::{ClientNo, NoMemory, Text, write_decimal};
-use cp_events::{Effects, Ending, Event, Ignored, Opened, Return};
+use cp_events::{Ending, Event, Ignored, Opened, Return};
 use cp_op_values::append_numbered;
 use cp_schedule::append_event_line;
 
@@ -127,24 +127,38 @@ fn append_returns(returns: &[(ClientNo, Return)], out: &mut Vec<u8>) -> Result<(
     Ok(())
 }
 
-fn append_effects(effects: &Effects, out: &mut Vec<u8>) -> Result<(), NoMemory>
-    ensures ok { OnOk result (out.new.items ≡ out.old.items ++ effects_lines effects.now) }
+fn append_effects(
+    number: u64,
+    event: &Event,
+    ignored: &Option<Ignored>,
+    opened: &[(ClientNo, Opened)],
+    returns: &[(ClientNo, Return)],
+    out: &mut Vec<u8>,
+) -> Result<(), NoMemory>
+    ensures ok { OnOk result (out.new.items ≡ out.old.items ++ effects_lines (record { number = number; event = event.now; ignored = ignored.now; opened = opened.now; returns = returns.now })) }
     ensures grew { Grew out.old.items out.new.items }
 {
-    append_event(effects.number, &effects.event, out)?;
-    append_ignored(&effects.ignored, out)?;
-    append_all_opened(effects.opened.as_slice(), out)?;
-    append_returns(effects.returns.as_slice(), out)?;
+    append_event(number, event, out)?;
+    append_ignored(ignored, out)?;
+    append_all_opened(opened, out)?;
+    append_returns(returns, out)?;
     Ok(())
 }
 
 /// Appends the lines of an event: its number and text, and what it did. Where memory runs out, `out` is left.
-pub fn write_effects(effects: &Effects, out: &mut Vec<u8>) -> Result<(), NoMemory>
-    ensures ok { OnOk result (out.new.items ≡ out.old.items ++ effects_lines effects.now) }
+pub fn write_effects(
+    number: u64,
+    event: &Event,
+    ignored: &Option<Ignored>,
+    opened: &[(ClientNo, Opened)],
+    returns: &[(ClientNo, Return)],
+    out: &mut Vec<u8>,
+) -> Result<(), NoMemory>
+    ensures ok { OnOk result (out.new.items ≡ out.old.items ++ effects_lines (record { number = number; event = event.now; ignored = ignored.now; opened = opened.now; returns = returns.now })) }
     ensures err { OnErr result (out.new.items ≡ out.old.items) }
 {
     let mark = out.len();
-    let written = append_effects(effects, out);
+    let written = append_effects(number, event, ignored, opened, returns, out);
     if written.is_err() {
         out.truncate(mark);
     }

@@ -7,8 +7,8 @@ ghost use Rattle.cp_transcript.specs.Transcripts.{lines_of};
 
 use crate::effects::write_effects;
 use crate::history::write_committed;
-use cp_base::NoMemory;
-use cp_events::Effects;
+use cp_base::{ClientNo, NoMemory};
+use cp_events::{Event, Ignored, Opened, Return};
 use cp_ops::Entry;
 use std::alloc::Global;
 
@@ -39,11 +39,19 @@ impl Transcript {
     }
 
     /// Appends what an event did. Where memory runs out, the lines are left.
-    pub fn add_effects(&mut self, effects: &Effects) -> Result<(), NoMemory>
+    pub fn add_effects(
+        &mut self,
+        number: u64,
+        event: &Event,
+        ignored: &Option<Ignored>,
+        opened: &[(ClientNo, Opened)],
+        returns: &[(ClientNo, Return)],
+    ) -> Result<(), NoMemory>
         ensures rows { self.new.rows ≡ self.old.rows }
-        ensures tells { OnOk result ((shown : List Effects) (history : List Committed) → Tells shown history self.old → Tells (shown ++ effects.now ∷ []) history self.new) }
+        ensures tells { OnOk result ((shown : List Effects) (history : List Committed) → Tells shown history self.old
+            → Tells (shown ++ record { number = number; event = event.now; ignored = ignored.now; opened = opened.now; returns = returns.now } ∷ []) history self.new) }
     {
-        write_effects(effects, &mut self.text)?;
+        write_effects(number, event, ignored, opened, returns, &mut self.text)?;
         Ok(())
     }
 

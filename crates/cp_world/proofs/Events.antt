@@ -23,7 +23,7 @@ use Rattle.cp_run.proofs.Settled.{settled}
 use Rattle.cp_run.specs.World as rules
 use Rattle.cp_world.specs.declared.turn.Turn.{Turn}
 use Rattle.cp_world.specs.declared.world.World.{World}
-use Rattle.cp_world.specs.Following.{Follows, Goes, GoesBut, HasRest, IsStep, Leads, LeadsBut, committed_at}
+use Rattle.cp_world.specs.Following.{Follows, Goes, IsStep, Leads, LeadsFrom, committed_at}
 use Rattle.cp_world.specs.Rooms.{CanCount, HasRoomFor, IsReached}
 use Rattle.cp_world.proofs.Growing.{after_step, handed_grows}
 use Rattle.cp_world.proofs.Leading.{history_more}
@@ -54,18 +54,17 @@ commit_leads a world done turn clients tables queue entries events = record {
 }
 
 -- what a client's step gives is noted
-pub note_leads : (me : ClientNo) (d : Did) (world done : World) (turn : Turn)
-    → done.clients.entries ≡ put nat_cmp world.clients.entries me.0 d.client → done.tables ≡ world.tables → done.queue ≡ world.queue → done.entries ≡ world.entries → done.events ≡ world.events
-    → LeadsBut me (rules.note me d) world turn done (record turn { opened = turn.opened ++ map (λ o. (me, o)) d.opened; returns = turn.returns ++ map (λ r. (me, r)) d.returns })
-note_leads me d world done turn clients tables queue entries events = record {
+pub note_leads : (me : ClientNo) (d : Did) (world : World) (turn : Turn)
+    → LeadsFrom me d (rules.note me d) world turn world (record turn { opened = turn.opened ++ map (λ o. (me, o)) d.opened; returns = turn.returns ++ map (λ r. (me, r)) d.returns })
+note_leads me d world turn = record {
   leads = λ before e w g. record {
-    clients = clients ∙ g.clients d.client;
+    clients = g.clients;
     rest = record {
-      state = tables ∙ g.rest.state;
-      entries = entries ∙ g.rest.entries;
-      events = events ∙ g.rest.events;
+      state = g.rest.state;
+      entries = g.rest.entries;
+      events = g.rest.events;
       effects_are = g.rest.effects_are;
-      queue = queue ∙ g.rest.queue;
+      queue = g.rest.queue;
       shown = ap (λ (s : Effects). record s { opened = s.opened ++ map (λ o. (me, o)) d.opened; returns = s.returns ++ map (λ r. (me, r)) d.returns }) g.rest.shown;
       history = g.rest.history;
     };
@@ -89,38 +88,63 @@ ignore_leads cause world turn = record {
   };
 }
 
--- the queue is taken
-emptied : (before : rules.World) (e : Event) (w : rules.World) (world : World) (turn : Turn) → Goes before e w world turn → Goes before e (record w { queue = [] }) (record world { queue = [] }) turn
-emptied before e w world turn g = record {
-  clients = g.clients;
-  rest = record {
-    state = g.rest.state;
-    entries = g.rest.entries;
-    events = g.rest.events;
-    effects_are = g.rest.effects_are;
-    queue = refl;
-    shown = g.rest.shown;
-    history = g.rest.history;
-  };
-}
+-- The queue is taken out. Lists that are lent may differ.
+module _ (plan : Plan) (world two : World) (turn : Turn) (queue : List (Invocation × Answer))
+    (clients : two.clients.entries ≡ world.clients.entries) (tables : two.tables ≡ world.tables) (entries : two.entries ≡ world.entries) (events : two.events ≡ world.events)
+    (left : two.queue ≡ []) (taken : queue ≡ world.queue) where
+  emptied : (before : rules.World) (e : Event) (w : rules.World) → Goes before e w world turn → Goes before e (record w { queue = [] }) two turn
+  emptied before e w g = record {
+    clients = clients ∙ g.clients;
+    rest = record {
+      state = tables ∙ g.rest.state;
+      entries = entries ∙ g.rest.entries;
+      events = events ∙ g.rest.events;
+      effects_are = g.rest.effects_are;
+      queue = left;
+      shown = g.rest.shown;
+      history = g.rest.history;
+    };
+  }
 
-module _ (plan : Plan) (world : World) (turn : Turn) where
-  pub queue_room : HasRoomFor (rules.handed plan) world turn → HasRoomFor (rules.hand_all plan world.queue) (record world { queue = [] }) turn
+  pub queue_room : HasRoomFor (rules.handed plan) world turn → HasRoomFor (rules.hand_all plan queue) two turn
   queue_room r = record {
     before = r.before;
     event = r.event;
     w = record r.w { queue = [] };
-    goes = emptied r.before r.event r.w world turn r.goes;
+    goes = emptied r.before r.event r.w r.goes;
     n = r.n;
     within = r.within;
-    few = subst (λ (q : List (Invocation × Answer)). length (rules.hand_all plan q (record r.w { queue = [] })).history + r.n < 2 ^ 62) (sym r.goes.rest.queue) r.few;
+    few = subst (λ (q : List (Invocation × Answer)). length (rules.hand_all plan q (record r.w { queue = [] })).history + r.n < 2 ^ 62) (sym (taken ∙ r.goes.rest.queue)) r.few;
   }
 
-  pub handed_leads : (done : World) (later : Turn) → Leads (rules.hand_all plan world.queue) (record world { queue = [] }) turn done later → Leads (rules.handed plan) world turn done later
+  pub handed_leads : (done : World) (later : Turn) → Leads (rules.hand_all plan queue) two turn done later → Leads (rules.handed plan) world turn done later
   handed_leads done later leads = record {
-    leads = λ before e w g. subst (λ (q : List (Invocation × Answer)). Goes before e (rules.hand_all plan q (record w { queue = [] })) done later) g.rest.queue
-        (leads.leads before e (record w { queue = [] }) (emptied before e w world turn g));
+    leads = λ before e w g. subst (λ (q : List (Invocation × Answer)). Goes before e (rules.hand_all plan q (record w { queue = [] })) done later) (taken ∙ g.rest.queue)
+        (leads.leads before e (record w { queue = [] }) (emptied before e w g));
   }
+
+-- What leads to a world leads to any that differs in lent lists alone.
+pub leads_same : (f : rules.World → rules.World) (world : World) (turn : Turn) (done same : World) (later : Turn)
+    → same.clients.entries ≡ done.clients.entries → same.tables ≡ done.tables → same.entries ≡ done.entries → same.events ≡ done.events → same.queue ≡ done.queue
+    → Leads f world turn done later → Leads f world turn same later
+leads_same f world turn done same later clients tables entries events queue l = record {
+  leads = λ before e w goes. let g = l.leads before e w goes in record {
+    clients = clients ∙ g.clients;
+    rest = record {
+      state = tables ∙ g.rest.state;
+      entries = entries ∙ g.rest.entries;
+      events = events ∙ g.rest.events;
+      effects_are = g.rest.effects_are;
+      queue = queue ∙ g.rest.queue;
+      shown = g.rest.shown;
+      history = g.rest.history;
+    };
+  };
+}
+
+-- nothing waits to be handed on
+pub none_handed : (plan : Plan) (world : World) (turn : Turn) → world.queue ≡ [] → Leads (rules.handed plan) world turn world turn
+none_handed plan world turn empty = handed_leads plan world world turn [] refl refl refl refl empty (sym empty) world turn (record { leads = λ before e w g. g })
 
 abbrev pub fresh : World → Turn
 fresh world = record { number = world.events + 1; ignored = None; opened = []; returns = []; entries = [] }
@@ -142,7 +166,7 @@ begun e w world f = record {
 
 -- the event is over
 ended : (plan : Plan) (e : Event) (w : rules.World) (world : World) (turn : Turn) → Goes w e (rules.handed plan (rules.handed plan (rules.begin plan e (rules.start e w)))) world turn
-    → IsStep plan e w (record world { events = world.events + 1 }) (record { number = turn.number; event = e; ignored = turn.ignored; opened = turn.opened; returns = turn.returns }) turn.entries
+    → IsStep plan e w (record world { events = world.events + 1 }) turn
 ended plan e w world turn g = let v = rules.handed plan (rules.handed plan (rules.begin plan e (rules.start e w))) in record {
   follows = record {
     clients = g.clients;
@@ -239,6 +263,23 @@ module _ (plan : Plan) (e : Event) (world : World) (r : IsReached plan world) wh
 
 -- the event, whole
 pub is_step : (plan : Plan) (e : Event) (w : rules.World) (world one two three : World) (x y z : Turn) → Leads (rules.begin plan e) world (fresh world) one x → Leads (rules.handed plan) one x two y → Leads (rules.handed plan) two y three z → Follows w world
-    → IsStep plan e w (record three { events = three.events + 1 }) (record { number = z.number; event = e; ignored = z.ignored; opened = z.opened; returns = z.returns }) z.entries
+    → IsStep plan e w (record three { events = three.events + 1 }) z
 is_step plan e w world one two three x y z begin hand again f = ended plan e w three z
     (again.leads w e (rules.handed plan (rules.begin plan e (rules.start e w))) (hand.leads w e (rules.begin plan e (rules.start e w)) (begin.leads w e (rules.start e w) (begun e w world f))))
+
+-- lists that are lent say nothing of the world
+module _ (one two : World) (clients : two.clients.entries ≡ one.clients.entries) (tables : two.tables ≡ one.tables) (entries : two.entries ≡ one.entries) (events : two.events ≡ one.events) (queue : two.queue ≡ one.queue) where
+  pub follows_same : (w : rules.World) → Follows w one → Follows w two
+  follows_same w f = record {
+    clients = clients ∙ f.clients;
+    state = tables ∙ f.state;
+    entries = entries ∙ f.entries;
+    events = events ∙ f.events;
+    queue = queue ∙ f.queue;
+  }
+
+  pub reached_same : (plan : Plan) → IsReached plan one → IsReached plan two
+  reached_same plan r = record { events = r.events; follows = follows_same (rules.world_after plan rules.new_world r.events) r.follows; few = r.few }
+
+  pub step_same : (plan : Plan) (e : Event) (w : rules.World) (turn : Turn) → IsStep plan e w one turn → IsStep plan e w two turn
+  step_same plan e w turn s = record { follows = follows_same (rules.world_step plan w e) s.follows; effects_are = s.effects_are; history = s.history }

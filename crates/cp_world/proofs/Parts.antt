@@ -16,50 +16,55 @@ use Rattle.cp_events.specs.declared.event.Event.{Event}
 use Rattle.cp_events.specs.declared.event.Event.TheVariants as event
 use Rattle.cp_events.specs.declared.plan.Plan.{Plan}
 use Rattle.cp_events.specs.declared.user_op.UserOp.{UserOp}
-use Rattle.cp_group_state.specs.Rows.{find, put}
+use Rattle.cp_group_state.specs.Rows.{find}
 use Rattle.cp_client_rules.specs.declared.rows.Pending.{Pending}
 use Rattle.cp_client_rules.specs.Clients.{Asked, Client, Did, thread_at}
 use Rattle.cp_client.specs.declared.output.ClientOut.{ClientOut}
-use Rattle.cp_client.specs.Steps.{Gives}
 use Rattle.cp_client.specs.Threads.{open_number}
 use Rattle.cp_run.specs.World as rules
 use Rattle.cp_run.proofs.Printed.{Printed}
 use Rattle.cp_run.proofs.Runs.{runs-printed}
 use Rattle.cp_world.specs.declared.turn.Turn.{Turn}
 use Rattle.cp_world.specs.declared.world.World.{World}
-use Rattle.cp_world.specs.Following.{Goes, GoesBut, Leads, LeadsBut}
+use Rattle.cp_world.specs.Following.{Goes, Leads, LeadsFrom}
+use Rattle.cp_world.specs.Given.{IsGiven}
 use Rattle.cp_world.specs.Rooms.{CanCount, CanCountDone, HasRoomFor, IsReached}
 use Rattle.cp_world.specs.Steps.{calls}
-use Rattle.cp_world.proofs.Taking.{client_is, none}
+use Rattle.cp_world.proofs.Taking.{client_is}
 use Rattle.cp_world.proofs.Events.{note_leads}
 
 -- what is noted is what the client's step gave
-pub note_to : (me : ClientNo) (client : Client) (opened : List Opened) (returns : List Return) (world done : World) (turn : Turn) (shown : List (ClientNo × Opened)) (told : List (ClientNo × Return))
-    → done.clients.entries ≡ put nat_cmp world.clients.entries me.0 client → done.tables ≡ world.tables → done.queue ≡ world.queue → done.entries ≡ world.entries → done.events ≡ world.events
+pub note_to : (me : ClientNo) (opened : List Opened) (returns : List Return) (world : World) (turn : Turn) (shown : List (ClientNo × Opened)) (told : List (ClientNo × Return))
     → shown ≡ turn.opened ++ map (λ o. (me, o)) opened → told ≡ turn.returns ++ map (λ r. (me, r)) returns
-    → (d : Did) → client ≡ d.client → opened ≡ d.opened → returns ≡ d.returns → LeadsBut me (rules.note me d) world turn done (record turn { opened = shown; returns = told })
-note_to me client opened returns world done turn shown told clients tables queue entries events shown_is told_is d one two three =
-    let all = note_leads me d world done turn (clients ∙ ap (λ (c : Client). put nat_cmp world.clients.entries me.0 c) one) tables queue entries events in
-    let first : shown ≡ turn.opened ++ map (λ o. (me, o)) d.opened = shown_is ∙ ap (λ (os : List Opened). turn.opened ++ map (λ o. (me, o)) os) two in
-    let second : told ≡ turn.returns ++ map (λ r. (me, r)) d.returns = told_is ∙ ap (λ (rs : List Return). turn.returns ++ map (λ r. (me, r)) rs) three in
-    subst (λ (os : List (ClientNo × Opened)). LeadsBut me (rules.note me d) world turn done (record turn { opened = os; returns = told })) (sym first)
-    (subst (λ (rs : List (ClientNo × Return)). LeadsBut me (rules.note me d) world turn done (record turn { opened = turn.opened ++ map (λ o. (me, o)) d.opened; returns = rs })) (sym second) all)
+    → (d : Did) → opened ≡ d.opened → returns ≡ d.returns → LeadsFrom me d (rules.note me d) world turn world (record turn { opened = shown; returns = told })
+note_to me opened returns world turn shown told shown_is told_is d one two =
+    let all = note_leads me d world turn in
+    let first : shown ≡ turn.opened ++ map (λ o. (me, o)) d.opened = shown_is ∙ ap (λ (os : List Opened). turn.opened ++ map (λ o. (me, o)) os) one in
+    let second : told ≡ turn.returns ++ map (λ r. (me, r)) d.returns = told_is ∙ ap (λ (rs : List Return). turn.returns ++ map (λ r. (me, r)) rs) two in
+    subst (λ (os : List (ClientNo × Opened)). LeadsFrom me d (rules.note me d) world turn world (record turn { opened = os; returns = told })) (sym first)
+    (subst (λ (rs : List (ClientNo × Return)). LeadsFrom me d (rules.note me d) world turn world (record turn { opened = turn.opened ++ map (λ o. (me, o)) d.opened; returns = rs })) (sym second) all)
 
-module _ (me : ClientNo) (client : Client) (out : ClientOut) (world : World) (turn : Turn) (one : World) (x : Turn)
-    (noted : (d : Did) → client ≡ d.client → out.opened ≡ d.opened → out.returns ≡ d.returns → LeadsBut me (rules.note me d) world turn one x) where
-  pub done_counts : CanCountDone me client out world turn → CanCount (rules.commit_all out.asked) one x
+module _ (me : ClientNo) (given : ClientOut) (world : World) (turn : Turn) (shown : List (ClientNo × Opened)) (told : List (ClientNo × Return))
+    (shown_is : shown ≡ turn.opened ++ map (λ o. (me, o)) given.opened) (told_is : told ≡ turn.returns ++ map (λ r. (me, r)) given.returns) where
+  abbrev later : Turn
+  later = record turn { opened = shown; returns = told }
+
+  noted : (d : Did) → IsGiven d given → LeadsFrom me d (rules.note me d) world turn world later
+  noted d g = note_to me given.opened given.returns world turn shown told shown_is told_is d g.opened g.returns
+
+  pub done_counts : CanCountDone me given world turn → CanCount (rules.commit_all given.asked) world later
   done_counts r = record {
     before = r.before;
     event = r.event;
     w = rules.note me r.did r.w;
-    goes = (noted r.did r.gives.client_is r.gives.opened r.gives.returns).leads r.before r.event r.w r.goes;
+    goes = (noted r.did r.gives).leads r.before r.event r.w r.goes;
     few = subst (λ (asked : List Asked). length (rules.commit_all asked (rules.note me r.did r.w)).history < 2 ^ 62) (sym r.gives.asked) r.few;
   }
 
-  pub does_leads : (two : World) (y : Turn) → Leads (rules.commit_all out.asked) one x two y → (d : Did) → Gives d client none out → LeadsBut me (rules.does me d) world turn two y
+  pub does_leads : (two : World) (y : Turn) → Leads (rules.commit_all given.asked) world later two y → (d : Did) → IsGiven d given → LeadsFrom me d (rules.does me d) world turn two y
   does_leads two y leads d g = record {
     leads = λ before e w goes. subst (λ (asked : List Asked). Goes before e (rules.commit_all asked (rules.note me d w)) two y) g.asked
-        (leads.leads before e (rules.note me d w) ((noted d g.client_is g.opened g.returns).leads before e w goes));
+        (leads.leads before e (rules.note me d w) ((noted d g).leads before e w goes));
   }
 
 not_busy : (n : ℕ) (p : Option Pending) → None ≡ open_number n p → p ≡ None
@@ -146,3 +151,8 @@ events_few plan world r =
 pub none_led : (plan : Plan) (queue : List (Invocation × Answer)) (world : World) (turn : Turn) → length queue ≡ 0 → Leads (rules.hand_all plan queue) world turn world turn
 none_led plan [] world turn e = record { leads = λ before x w g. g }
 none_led plan (a ∷ queue) world turn e = absurd (omega arith)
+
+-- nothing is left to be committed
+pub none_committed : (asked : List Asked) (world : World) (turn : Turn) → length asked ≡ 0 → Leads (rules.commit_all asked) world turn world turn
+none_committed [] world turn e = record { leads = λ before x w g. g }
+none_committed (a ∷ asked) world turn e = absurd (omega arith)

@@ -7,7 +7,7 @@ use Rattle.cp_events.specs.declared.effects.Effects.{Effects}
 use Rattle.cp_events.specs.declared.event.Event.{Event}
 use Rattle.cp_events.specs.declared.plan.Plan.{Plan}
 use Rattle.cp_group_state.specs.Rows.{put}
-use Rattle.cp_client_rules.specs.Clients.{Client}
+use Rattle.cp_client_rules.specs.Clients.{Did}
 use Rattle.cp_run.specs.Rows.{Committed}
 use Rattle.cp_run.specs.World as rules
 use Rattle.cp_world.specs.declared.turn.Turn.{Turn}
@@ -17,6 +17,10 @@ use Rattle.cp_world.specs.declared.world.World.{World}
 abbrev pub committed_at : ℕ → List Entry → List Committed
 committed_at event entries = map (λ e. record { event = event; entry = e }) entries
 
+-- what an event shows
+abbrev pub effects_of : Event → Turn → Effects
+effects_of e turn = record { number = turn.number; event = e; ignored = turn.ignored; opened = turn.opened; returns = turn.returns }
+
 -- The group, the queue, what the event under way shows so far, and what it committed since the world before it.
 pub record HasRest (before : rules.World) (e : Event) (w : rules.World) (world : World) (turn : Turn) : Type 0 where
   pub state : world.tables ≡ w.state
@@ -24,7 +28,7 @@ pub record HasRest (before : rules.World) (e : Event) (w : rules.World) (world :
   pub events : world.events ≡ length w.effects
   pub effects_are : w.effects ≡ before.effects
   pub queue : world.queue ≡ w.queue
-  pub shown : w.shown ≡ record { number = turn.number; event = e; ignored = turn.ignored; opened = turn.opened; returns = turn.returns }
+  pub shown : w.shown ≡ effects_of e turn
   pub history : w.history ≡ before.history ++ committed_at turn.number turn.entries
 
 -- The world between events.
@@ -35,25 +39,25 @@ pub record Follows (w : rules.World) (world : World) : Type 0 where
   pub events : world.events ≡ length w.effects
   pub queue : world.queue ≡ w.queue
 
--- What an event leaves: the world after it, what it shows, and the entries that it committed.
-pub record IsStep (plan : Plan) (event : Event) (w : rules.World) (world : World) (effects : Effects) (entries : List Entry) : Type 0 where
+-- What an event leaves: the world after it, and in the turn what it shows and the entries that it committed.
+pub record IsStep (plan : Plan) (event : Event) (w : rules.World) (world : World) (turn : Turn) : Type 0 where
   pub follows : Follows (rules.world_step plan w event) world
-  pub effects_are : (rules.world_step plan w event).effects ≡ w.effects ++ effects ∷ []
-  pub history : (rules.world_step plan w event).history ≡ w.history ++ committed_at effects.number entries
+  pub effects_are : (rules.world_step plan w event).effects ≡ w.effects ++ effects_of event turn ∷ []
+  pub history : (rules.world_step plan w event).history ≡ w.history ++ committed_at turn.number turn.entries
 
 -- The world while an event is under way.
 pub record Goes (before : rules.World) (e : Event) (w : rules.World) (world : World) (turn : Turn) : Type 0 where
   pub clients : world.clients.entries ≡ w.clients
   pub rest : HasRest before e w world turn
 
--- The same, whatever the code has of this client.
-pub record GoesBut (me : ClientNo) (before : rules.World) (e : Event) (w : rules.World) (world : World) (turn : Turn) : Type 0 where
-  pub clients : (c : Client) → put nat_cmp world.clients.entries me.0 c ≡ put nat_cmp w.clients me.0 c
+-- The same, once this client took its step.
+pub record GoesFrom (me : ClientNo) (d : Did) (before : rules.World) (e : Event) (w : rules.World) (world : World) (turn : Turn) : Type 0 where
+  pub clients : world.clients.entries ≡ put nat_cmp w.clients me.0 d.client
   pub rest : HasRest before e w world turn
 
 -- The code does what the definition does.
 pub record Leads (f : rules.World → rules.World) (world : World) (turn : Turn) (after : World) (later : Turn) : Type 0 where
   pub leads : (before : rules.World) (e : Event) (w : rules.World) → Goes before e w world turn → Goes before e (f w) after later
 
-pub record LeadsBut (me : ClientNo) (f : rules.World → rules.World) (world : World) (turn : Turn) (after : World) (later : Turn) : Type 0 where
-  pub leads : (before : rules.World) (e : Event) (w : rules.World) → GoesBut me before e w world turn → Goes before e (f w) after later
+pub record LeadsFrom (me : ClientNo) (d : Did) (f : rules.World → rules.World) (world : World) (turn : Turn) (after : World) (later : Turn) : Type 0 where
+  pub leads : (before : rules.World) (e : Event) (w : rules.World) → GoesFrom me d before e w world turn → Goes before e (f w) after later

@@ -1,3 +1,4 @@
 pub mod Following
+pub mod Given
 pub mod Rooms
 pub mod Steps

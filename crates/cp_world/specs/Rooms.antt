@@ -1,16 +1,16 @@
 -- Worlds whose numbers may grow.
-use Rattle.std.specs.Prelude.{◌≡◌, ◌<◌, ◌+◌, ◌^◌, ℕ, List, [], length}
+use Rattle.std.specs.Prelude.{◌<◌, ◌+◌, ◌^◌, ℕ, List, length}
 use Rattle.cp_base.specs.declared.identifier.ClientNo.{ClientNo}
 use Rattle.cp_events.specs.declared.event.Event.{Event}
 use Rattle.cp_events.specs.declared.plan.Plan.{Plan}
-use Rattle.cp_client_rules.specs.Clients.{Client, Did}
+use Rattle.cp_client_rules.specs.Clients.{Did}
 use Rattle.cp_client.specs.declared.output.ClientOut.{ClientOut}
-use Rattle.cp_client.specs.Steps.{Gives}
 use Rattle.cp_run.specs.Bounds.{AllWithin}
 use Rattle.cp_run.specs.World as rules
 use Rattle.cp_world.specs.declared.turn.Turn.{Turn}
 use Rattle.cp_world.specs.declared.world.World.{World}
-use Rattle.cp_world.specs.Following.{Follows, Goes, GoesBut}
+use Rattle.cp_world.specs.Following.{Follows, Goes, GoesFrom}
+use Rattle.cp_world.specs.Given.{IsGiven}
 
 -- the history that a step leads to can be counted
 pub record CanCount (f : rules.World → rules.World) (world : World) (turn : Turn) : Type 0 where
@@ -20,14 +20,14 @@ pub record CanCount (f : rules.World → rules.World) (world : World) (turn : Tu
   pub goes : Goes before event w world turn
   pub few : length (f w).history < 2 ^ 62
 
--- a client's step was taken, and the history that it leads to can be counted
-pub record CanCountDone (me : ClientNo) (client : Client) (out : ClientOut) (world : World) (turn : Turn) : Type 0 where
+-- a client's step gave this, and the history that it leads to can be counted
+pub record CanCountDone (me : ClientNo) (given : ClientOut) (world : World) (turn : Turn) : Type 0 where
   pub before : rules.World
   pub event : Event
   pub w : rules.World
   pub did : Did
-  pub gives : Gives did client (record { asked = []; opened = []; returns = [] }) out
-  pub goes : GoesBut me before event w world turn
+  pub gives : IsGiven did given
+  pub goes : GoesFrom me did before event w world turn
   pub few : length (rules.does me did w).history < 2 ^ 62
 
 -- so can the numbers of the clients

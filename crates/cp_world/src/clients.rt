@@ -1,9 +1,9 @@
 //! The clients of a world, by number.
-ghost use Rattle.std.specs.Prelude.{◌≡◌, ◌≤◌, ◌+◌, ◌^◌, [], IfOk, OnOk};
+ghost use Rattle.std.specs.Prelude.{◌≡◌, ◌≤◌, ◌+◌, ◌^◌, OnOk};
 ghost use Rattle.std.specs.Ordering.{nat_cmp};
-ghost use Rattle.cp_group_state.specs.Rows.{find, put};
+ghost use Rattle.cp_group_state.specs.Rows.{find};
 ghost use Rattle.cp_client.specs.Threads.{open_number};
-ghost use Rattle.cp_client_rules.specs.Clients.{new_client, thread_at};
+ghost use Rattle.cp_client_rules.specs.Clients.{thread_at};
 ghost use Rattle.cp_base.specs.Identifiers.{replay_id};
 ghost use Rattle.cp_client.specs.Rooms.{HasRoom};
 ghost use Rattle.cp_client.specs.Steps.{Gives};
@@ -11,6 +11,7 @@ ghost use Rattle.cp_client_rules.specs.Answers.{answer_client};
 ghost use Rattle.cp_client_rules.specs.Calls.{call_client};
 ghost use Rattle.cp_client_rules.specs.Ticks.{tick_client};
 ghost use Rattle.cp_run.specs.World.{client_of, or_new};
+ghost use Rattle.cp_world.specs.Given.{GivesAt};
 
 use crate::copying::copy_of;
 use cp_answers::Answer;
@@ -20,7 +21,6 @@ use cp_events::{Plan, UserOp};
 use cp_table::put_row;
 use std::alloc::Global;
 use std::collections::BTreeMap;
-use std::mem;
 
 /// The number of a thread's open request, if it has one.
 pub fn is_busy(clients: &BTreeMap<u8, Client>, me: ClientNo, thread: ThreadNo) -> Option<u64>
@@ -42,24 +42,6 @@ pub fn clock_of(clients: &BTreeMap<u8, Client>, me: ClientNo) -> u64
     }
 }
 
-/// Takes a client out. A new one stands in its place.
-pub fn take_client(
-    alloc: Global,
-    clients: &mut BTreeMap<u8, Client>,
-    me: ClientNo,
-) -> Result<Client, NoMemory>
-    ensures client { IfOk result (λ client. client ≡ or_new (find nat_cmp clients.old.entries me.0)) }
-    ensures rows { OnOk result (clients.new.entries ≡ put nat_cmp clients.old.entries me.0 new_client) }
-{
-    match clients.get_mut(&me.0) {
-        Some(place) => Ok(mem::replace(place, Client::new(alloc))),
-        None => {
-            put_row(clients, me.0, Client::new(alloc))?;
-            Ok(Client::new(alloc))
-        }
-    }
-}
-
 /// The client whose request this is.
 pub fn client_of(request: &Invocation) -> ClientNo
     ensures { result ≡ client_of request.now }
@@ -68,51 +50,112 @@ pub fn client_of(request: &Invocation) -> ClientNo
 }
 
 /// A thread of a client begins a call.
-pub fn step_call(
-    alloc: Global,
+fn step_call(
     client: &mut Client,
     plan: &Plan,
     me: ClientNo,
     thread: ThreadNo,
     op: &UserOp,
-) -> Result<ClientOut, NoMemory>
+    out: &mut ClientOut,
+) -> Result<(), NoMemory>
     requires { HasRoom thread client.old }
-    ensures { IfOk result (λ out. Gives (call_client plan.now (replay_id me) thread op.now client.old) client.new (record { asked = []; opened = []; returns = [] }) out) }
+    ensures { OnOk result (Gives (call_client plan.now (replay_id me) thread op.now client.old) client.new out.old out.new) }
 {
-    let mut out = ClientOut::new(alloc);
     let op = copy_of(op)?;
-    client.call(plan, ClientId::in_replay(me), thread, op, &mut out)?;
-    Ok(out)
+    client.call(plan, ClientId::in_replay(me), thread, op, out)
+}
+
+/// A thread of the client of this number begins a call.
+pub fn call_at(
+    alloc: Global,
+    clients: &mut BTreeMap<u8, Client>,
+    plan: &Plan,
+    me: ClientNo,
+    thread: ThreadNo,
+    op: &UserOp,
+    out: &mut ClientOut,
+) -> Result<(), NoMemory>
+    requires { HasRoom thread (or_new (find nat_cmp clients.old.entries me.0)) }
+    ensures { OnOk result (GivesAt me (call_client plan.now (replay_id me) thread op.now (or_new (find nat_cmp clients.old.entries me.0))) clients.old.entries clients.new.entries out.old out.new) }
+{
+    match clients.get_mut(&me.0) {
+        Some(client) => step_call(client, plan, me, thread, op, out),
+        None => {
+            let mut client = Client::new(alloc);
+            step_call(&mut client, plan, me, thread, op, out)?;
+            put_row(clients, me.0, client)
+        }
+    }
 }
 
 /// An answer comes to a client.
-pub fn step_answer(
-    alloc: Global,
+fn step_answer(
     client: &mut Client,
     plan: &Plan,
     me: ClientNo,
     request: &Invocation,
     answer: Answer,
-) -> Result<ClientOut, NoMemory>
+    out: &mut ClientOut,
+) -> Result<(), NoMemory>
     requires { HasRoom request.now.thread client.old }
-    ensures { IfOk result (λ out. Gives (answer_client plan.now (replay_id me) request.now answer client.old) client.new (record { asked = []; opened = []; returns = [] }) out) }
+    ensures { OnOk result (Gives (answer_client plan.now (replay_id me) request.now answer client.old) client.new out.old out.new) }
 {
-    let mut out = ClientOut::new(alloc);
-    client.answer(plan, ClientId::in_replay(me), request, answer, &mut out)?;
-    Ok(out)
+    client.answer(plan, ClientId::in_replay(me), request, answer, out)
+}
+
+/// An answer comes to the client of this number.
+pub fn answer_at(
+    alloc: Global,
+    clients: &mut BTreeMap<u8, Client>,
+    plan: &Plan,
+    me: ClientNo,
+    request: &Invocation,
+    answer: Answer,
+    out: &mut ClientOut,
+) -> Result<(), NoMemory>
+    requires { HasRoom request.now.thread (or_new (find nat_cmp clients.old.entries me.0)) }
+    ensures { OnOk result (GivesAt me (answer_client plan.now (replay_id me) request.now answer (or_new (find nat_cmp clients.old.entries me.0))) clients.old.entries clients.new.entries out.old out.new) }
+{
+    match clients.get_mut(&me.0) {
+        Some(client) => step_answer(client, plan, me, request, answer, out),
+        None => {
+            let mut client = Client::new(alloc);
+            step_answer(&mut client, plan, me, request, answer, out)?;
+            put_row(clients, me.0, client)
+        }
+    }
 }
 
 /// The clock of a client moves.
-pub fn step_tick(
-    alloc: Global,
+fn step_tick(
     client: &mut Client,
     me: ClientNo,
     ms: u32,
-) -> Result<ClientOut, NoMemory>
+    out: &mut ClientOut,
+) -> Result<(), NoMemory>
     requires { client.old.clock + ms ≤ 2 ^ 62 }
-    ensures { IfOk result (λ out. Gives (tick_client (replay_id me) ms client.old) client.new (record { asked = []; opened = []; returns = [] }) out) }
+    ensures { OnOk result (Gives (tick_client (replay_id me) ms client.old) client.new out.old out.new) }
 {
-    let mut out = ClientOut::new(alloc);
-    client.tick(ClientId::in_replay(me), ms, &mut out)?;
-    Ok(out)
+    client.tick(ClientId::in_replay(me), ms, out)
+}
+
+/// The clock of the client of this number moves.
+pub fn tick_at(
+    alloc: Global,
+    clients: &mut BTreeMap<u8, Client>,
+    me: ClientNo,
+    ms: u32,
+    out: &mut ClientOut,
+) -> Result<(), NoMemory>
+    requires { (or_new (find nat_cmp clients.old.entries me.0)).clock + ms ≤ 2 ^ 62 }
+    ensures { OnOk result (GivesAt me (tick_client (replay_id me) ms (or_new (find nat_cmp clients.old.entries me.0))) clients.old.entries clients.new.entries out.old out.new) }
+{
+    match clients.get_mut(&me.0) {
+        Some(client) => step_tick(client, me, ms, out),
+        None => {
+            let mut client = Client::new(alloc);
+            step_tick(&mut client, me, ms, out)?;
+            put_row(clients, me.0, client)
+        }
+    }
 }

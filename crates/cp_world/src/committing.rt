@@ -1,17 +1,18 @@
 //! What a client asks enters the history at once.
-ghost use Rattle.std.specs.Prelude.{◌≡◌, ◌<◌, ◌+◌, ◌^◌, ◌++◌, ℕ, List, [], map, OnOk};
+ghost use Rattle.std.specs.Prelude.{◌≡◌, ◌<◌, ◌+◌, ◌^◌, ◌++◌, ℕ, List, map, OnOk};
 ghost use Rattle.cp_client_rules.specs.Clients.{Did};
-ghost use Rattle.cp_client.specs.Steps.{Gives};
-ghost use Rattle.cp_run.specs.World.{commit, commit_all, does, note};
-ghost use Rattle.cp_world.specs.Following.{Leads, LeadsBut};
+ghost use Rattle.cp_run.specs.World.{commit, commit_all, does};
+ghost use Rattle.cp_world.specs.Following.{Leads, LeadsFrom};
+ghost use Rattle.cp_world.specs.Given.{IsGiven};
 ghost use Rattle.cp_world.specs.Rooms.{CanCount, CanCountDone};
 
+use crate::reusing::take_backwards;
 use crate::turn::Turn;
 use crate::world::World;
 use cp_base::{ClientNo, Items, NoMemory};
-use cp_client::{Asked, Client, ClientOut};
+use cp_client::{Asked, ClientOut};
 use cp_events::{Opened, Return};
-use cp_table::put_row;
+use std::alloc::Global;
 
 /// A request is the next entry of the history, and what that answers waits to be handed on.
 fn commit(world: &mut World, asked: Asked, turn: &mut Turn) -> Result<(), NoMemory>
@@ -26,76 +27,62 @@ fn commit(world: &mut World, asked: Asked, turn: &mut Turn) -> Result<(), NoMemo
     turn.entries.push(entry)
 }
 
-fn commit_all(world: &mut World, asked: Items<Asked>, turn: &mut Turn) -> Result<(), NoMemory>
-    requires { CanCount (commit_all asked) world.old turn.old }
-    ensures { OnOk result (Leads (commit_all asked) world.old turn.old world.new turn.new) }
+fn commit_all(world: &mut World, asked: &mut Items<Asked>, turn: &mut Turn) -> Result<(), NoMemory>
+    requires { CanCount (commit_all asked.old) world.old turn.old }
+    ensures { OnOk result (Leads (commit_all asked.old) world.old turn.old world.new turn.new) }
 {
-    for request in asked.into_vec() {
+    let mut requests = take_backwards(world.alloc, asked);
+    while let Some(request) = requests.pop() {
         commit(world, request, turn)?;
     }
+    *asked = Items::from_vec(requests);
     Ok(())
 }
 
 /// The sessions that a client opened are shown.
 fn show_opened(
     me: ClientNo,
-    opened: Items<Opened>,
+    opened: &[Opened],
     out: &mut Items<(ClientNo, Opened)>,
 ) -> Result<(), NoMemory>
-    ensures { OnOk result (out.new ≡ out.old ++ map (λ o. (me, o)) opened) }
+    ensures { OnOk result (out.new ≡ out.old ++ map (λ o. (me, o)) opened.now) }
 {
-    for session in opened.into_vec() {
-        out.push((me, session))?;
+    let mut rest = opened;
+    while let [session, after @ ..] = rest {
+        out.push((me, *session))?;
+        rest = after;
     }
     Ok(())
 }
 
 /// The calls of a client that returned are shown.
 fn show_returns(
+    alloc: Global,
     me: ClientNo,
-    returns: Items<Return>,
+    returns: &mut Items<Return>,
     out: &mut Items<(ClientNo, Return)>,
 ) -> Result<(), NoMemory>
-    ensures { OnOk result (out.new ≡ out.old ++ map (λ r. (me, r)) returns) }
+    ensures { OnOk result (out.new ≡ out.old ++ map (λ r. (me, r)) returns.old) }
 {
-    for call in returns.into_vec() {
+    let mut calls = take_backwards(alloc, returns);
+    while let Some(call) = calls.pop() {
         out.push((me, call))?;
     }
+    *returns = Items::from_vec(calls);
     Ok(())
 }
 
-/// What a client's step gives is noted.
-fn note(
-    world: &mut World,
-    me: ClientNo,
-    client: Client,
-    opened: Items<Opened>,
-    returns: Items<Return>,
-    turn: &mut Turn,
-) -> Result<(), NoMemory>
-    ensures { OnOk result ((d : Did) → client ≡ d.client → opened ≡ d.opened → returns ≡ d.returns → LeadsBut me (note me d) world.old turn.old world.new turn.new) }
-{
-    put_row(&mut world.clients, me.0, client)?;
-    show_opened(me, opened, &mut turn.opened)?;
-    show_returns(me, returns, &mut turn.returns)
-}
-
-/// A client took a step. The requests that begin are committed at once.
+/// A client took a step, which gave this. The requests that begin are committed at once.
 pub fn does(
     world: &mut World,
     me: ClientNo,
-    client: Client,
-    out: ClientOut,
+    given: &mut ClientOut,
     turn: &mut Turn,
 ) -> Result<(), NoMemory>
-    requires { CanCountDone me client out world.old turn.old }
-    ensures { OnOk result ((d : Did) → Gives d client (record { asked = []; opened = []; returns = [] }) out → LeadsBut me (does me d) world.old turn.old world.new turn.new) }
+    requires { CanCountDone me given.old world.old turn.old }
+    ensures { OnOk result ((d : Did) → IsGiven d given.old → LeadsFrom me d (does me d) world.old turn.old world.new turn.new) }
 {
-    let ClientOut {
-        asked,
-        opened,
-        returns,
-    } = out;
-    note(world, me, client, opened, returns, turn)?;
-    commit_all(world, asked, turn)
+    show_opened(me, given.opened.as_slice(), &mut turn.opened)?;
+    show_returns(world.alloc, me, &mut given.returns, &mut turn.returns)?;
+    commit_all(world, &mut given.asked, turn)
 }

@@ -1,5 +1,5 @@
 //! An event, and all that follows from it.
-ghost use Rattle.std.specs.Prelude.{◌≡◌, ◌≤◌, ◌+◌, ◌^◌, IfOk, OnOk};
+ghost use Rattle.std.specs.Prelude.{◌≡◌, ◌≤◌, ◌+◌, ◌^◌, OnOk};
 ghost use Rattle.std.specs.Ordering.{nat_cmp};
 ghost use Rattle.cp_events.specs.declared.event.Event.TheVariants as event;
 ghost use Rattle.cp_group_state.specs.Rows.{find};
@@ -8,14 +8,15 @@ ghost use Rattle.cp_world.specs.Steps.{calls};
 ghost use Rattle.cp_world.specs.Following.{Follows, IsStep, Leads};
 ghost use Rattle.cp_world.specs.Rooms.{HasRoomFor, IsReached};
 
-use crate::clients::{clock_of, is_busy, step_call, step_tick, take_client};
+use crate::clients::{call_at, clock_of, is_busy, tick_at};
 use crate::committing::does;
 use crate::handing::handed;
 use crate::turn::Turn;
 use crate::world::World;
-use cp_base::{ClientNo, Items, NoMemory, ThreadNo};
-use cp_events::{Effects, Event, Ignored, Plan, UserOp};
-use cp_ops::Entry;
+use cp_base::{ClientNo, NoMemory, ThreadNo};
+use cp_client::ClientOut;
+use cp_events::{Event, Ignored, Plan, UserOp};
+use std::mem;
 
 /// The clocks of clients end here.
 const CLOCK_END: u64 = 1 << 62;
@@ -33,14 +34,15 @@ fn calls_now(
     me: ClientNo,
     thread: ThreadNo,
     op: &UserOp,
+    given: &mut ClientOut,
     turn: &mut Turn,
 ) -> Result<(), NoMemory>
     requires { HasRoomFor (calls_now plan.now me thread op.now) world.old turn.old }
     ensures { OnOk result (Leads (calls_now plan.now me thread op.now) world.old turn.old world.new turn.new) }
 {
-    let mut client = take_client(world.alloc, &mut world.clients, me)?;
-    let out = step_call(world.alloc, &mut client, plan, me, thread, op)?;
-    does(world, me, client, out, turn)
+    given.clear(world.alloc);
+    call_at(world.alloc, &mut world.clients, plan, me, thread, op, given)?;
+    does(world, me, given, turn)
 }
 
 /// A thread makes one call at a time.
@@ -50,6 +52,7 @@ fn calls(
     me: ClientNo,
     thread: ThreadNo,
     op: &UserOp,
+    given: &mut ClientOut,
     turn: &mut Turn,
 ) -> Result<(), NoMemory>
     requires { HasRoomFor (calls plan.now me thread op.now) world.old turn.old }
@@ -60,23 +63,35 @@ fn calls(
             turn.ignored = Some(Ignored::ThreadBusy(number));
             Ok(())
         }
-        None => calls_now(world, plan, me, thread, op, turn),
+        None => calls_now(world, plan, me, thread, op, given, turn),
     }
 }
 
 /// The clock of a client moves, which doesn't pass its end.
-fn moves_now(world: &mut World, me: ClientNo, ms: u32, turn: &mut Turn) -> Result<(), NoMemory>
+fn moves_now(
+    world: &mut World,
+    me: ClientNo,
+    ms: u32,
+    given: &mut ClientOut,
+    turn: &mut Turn,
+) -> Result<(), NoMemory>
     requires room { HasRoomFor (moves_if_room me ms) world.old turn.old }
     requires clock { (or_new (find nat_cmp world.old.clients.entries me.0)).clock + ms ≤ 2 ^ 62 }
     ensures { OnOk result (Leads (moves_if_room me ms) world.old turn.old world.new turn.new) }
 {
-    let mut client = take_client(world.alloc, &mut world.clients, me)?;
-    let out = step_tick(world.alloc, &mut client, me, ms)?;
-    does(world, me, client, out, turn)
+    given.clear(world.alloc);
+    tick_at(world.alloc, &mut world.clients, me, ms, given)?;
+    does(world, me, given, turn)
 }
 
 /// Clocks have an end.
-fn moves(world: &mut World, me: ClientNo, ms: u32, turn: &mut Turn) -> Result<(), NoMemory>
+fn moves(
+    world: &mut World,
+    me: ClientNo,
+    ms: u32,
+    given: &mut ClientOut,
+    turn: &mut Turn,
+) -> Result<(), NoMemory>
     requires { HasRoomFor (moves_if_room me ms) world.old turn.old }
     ensures { OnOk result (Leads (moves_if_room me ms) world.old turn.old world.new turn.new) }
 {
@@ -85,7 +100,7 @@ fn moves(world: &mut World, me: ClientNo, ms: u32, turn: &mut Turn) -> Result<()
         turn.ignored = Some(Ignored::ClockEnd(clock));
         return Ok(());
     }
-    moves_now(world, me, ms, turn)
+    moves_now(world, me, ms, given, turn)
 }
 
 fn begin_call(
@@ -94,13 +109,14 @@ fn begin_call(
     me: ClientNo,
     thread: ThreadNo,
     op: &UserOp,
+    given: &mut ClientOut,
     turn: &mut Turn,
 ) -> Result<(), NoMemory>
     requires { HasRoomFor (begin plan.now (event.Call me thread op.now)) world.old turn.old }
     ensures { OnOk result (Leads (begin plan.now (event.Call me thread op.now)) world.old turn.old world.new turn.new) }
 {
     if is_client(plan, me) {
-        return calls(world, plan, me, thread, op, turn);
+        return calls(world, plan, me, thread, op, given, turn);
     }
     turn.ignored = Some(Ignored::NoSuchClient);
     Ok(())
@@ -111,26 +127,33 @@ fn begin_tick(
     plan: &Plan,
     me: ClientNo,
     ms: u32,
+    given: &mut ClientOut,
     turn: &mut Turn,
 ) -> Result<(), NoMemory>
     requires { HasRoomFor (begin plan.now (event.ClientTick me ms)) world.old turn.old }
     ensures { OnOk result (Leads (begin plan.now (event.ClientTick me ms)) world.old turn.old world.new turn.new) }
 {
     if is_client(plan, me) {
-        return moves(world, me, ms, turn);
+        return moves(world, me, ms, given, turn);
     }
     turn.ignored = Some(Ignored::NoSuchClient);
     Ok(())
 }
 
 /// What an event does first.
-fn begin(world: &mut World, plan: &Plan, event: &Event, turn: &mut Turn) -> Result<(), NoMemory>
+fn begin(
+    world: &mut World,
+    plan: &Plan,
+    event: &Event,
+    given: &mut ClientOut,
+    turn: &mut Turn,
+) -> Result<(), NoMemory>
     requires { HasRoomFor (begin plan.now event.now) world.old turn.old }
     ensures { OnOk result (Leads (begin plan.now event.now) world.old turn.old world.new turn.new) }
 {
     match event {
-        Event::Call(me, thread, op) => begin_call(world, plan, *me, *thread, op, turn),
-        Event::ClientTick(me, ms) => begin_tick(world, plan, *me, *ms, turn),
+        Event::Call(me, thread, op) => begin_call(world, plan, *me, *thread, op, given, turn),
+        Event::ClientTick(me, ms) => begin_tick(world, plan, *me, *ms, given, turn),
         Event::Deliver(_) => {
             turn.ignored = Some(Ignored::NoMessage(0));
             Ok(())
@@ -143,20 +166,33 @@ fn begin(world: &mut World, plan: &Plan, event: &Event, turn: &mut Turn) -> Resu
     }
 }
 
-/// The next event: what it shows, and the entries that it committed. An answer makes its client ask at most once more,
-/// so the queue is empty when it was handed on twice.
-pub fn step(
+/// The next event, of which the steps of clients are given in this list. An answer makes its client ask at most once
+/// more, so the queue is empty when it was handed on twice.
+fn step_in(
     world: &mut World,
     plan: &Plan,
-    event: Event,
-) -> Result<(Effects, Items<Entry>), NoMemory>
+    event: &Event,
+    given: &mut ClientOut,
+    turn: &mut Turn,
+) -> Result<(), NoMemory>
     requires { IsReached plan.now world.old }
-    ensures { IfOk result (λ done. (w : Rules) → Follows w world.old → IsStep plan.now event w world.new done.0 done.1) }
+    ensures { OnOk result ((w : Rules) → Follows w world.old → IsStep plan.now event.now w world.new turn.new) }
 {
-    let mut turn = Turn::new(world.alloc, world.events + 1);
-    begin(world, plan, &event, &mut turn)?;
-    handed(world, plan, &mut turn)?;
-    handed(world, plan, &mut turn)?;
+    turn.start(world.alloc, world.events + 1);
+    begin(world, plan, event, given, turn)?;
+    handed(world, plan, given, turn)?;
+    handed(world, plan, given, turn)?;
     world.events += 1;
-    Ok(turn.close(event))
+    Ok(())
+}
+
+/// The next event: what it shows, and the entries that it committed.
+pub fn step(world: &mut World, plan: &Plan, event: &Event, turn: &mut Turn) -> Result<(), NoMemory>
+    requires { IsReached plan.now world.old }
+    ensures { OnOk result ((w : Rules) → Follows w world.old → IsStep plan.now event.now w world.new turn.new) }
+{
+    let mut given = mem::replace(&mut world.given, ClientOut::new(world.alloc));
+    step_in(world, plan, event, &mut given, turn)?;
+    world.given = given;
+    Ok(())
 }

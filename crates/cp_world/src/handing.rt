@@ -1,17 +1,20 @@
 //! Answers are handed on to their clients.
-ghost use Rattle.std.specs.Prelude.{◌≡◌, OnOk};
+ghost use Rattle.std.specs.Prelude.{◌≡◌, [], OnOk};
 ghost use Rattle.cp_run.specs.World.{hand_all, hand_on, handed};
 ghost use Rattle.cp_world.specs.Following.{Leads};
 ghost use Rattle.cp_world.specs.Rooms.{HasRoomFor};
 ghost use Rattle.cp_world.specs.Steps.{hand_to};
 
-use crate::clients::{client_of, step_answer, take_client};
+use crate::clients::{answer_at, client_of};
 use crate::committing::does;
+use crate::reusing::{empty, take_backwards};
 use crate::turn::Turn;
 use crate::world::World;
 use cp_answers::Answer;
 use cp_base::{ClientNo, Invocation, Items, NoMemory};
+use cp_client::ClientOut;
 use cp_events::Plan;
+use std::alloc::Global;
 use std::mem;
 
 /// An answer is handed to this client.
@@ -21,14 +24,23 @@ fn hand_to(
     me: ClientNo,
     request: &Invocation,
     answer: Answer,
+    given: &mut ClientOut,
     turn: &mut Turn,
 ) -> Result<(), NoMemory>
     requires { HasRoomFor (hand_to plan.now me request.now answer) world.old turn.old }
     ensures { OnOk result (Leads (hand_to plan.now me request.now answer) world.old turn.old world.new turn.new) }
 {
-    let mut client = take_client(world.alloc, &mut world.clients, me)?;
-    let out = step_answer(world.alloc, &mut client, plan, me, request, answer)?;
-    does(world, me, client, out, turn)
+    given.clear(world.alloc);
+    answer_at(
+        world.alloc,
+        &mut world.clients,
+        plan,
+        me,
+        request,
+        answer,
+        given,
+    )?;
+    does(world, me, given, turn)
 }
 
 /// An answer is handed to its client.
@@ -37,35 +49,63 @@ fn hand_on(
     plan: &Plan,
     request: Invocation,
     answer: Answer,
+    given: &mut ClientOut,
     turn: &mut Turn,
 ) -> Result<(), NoMemory>
     requires { HasRoomFor (hand_on plan.now (request, answer)) world.old turn.old }
     ensures { OnOk result (Leads (hand_on plan.now (request, answer)) world.old turn.old world.new turn.new) }
 {
     let me = client_of(&request);
-    hand_to(world, plan, me, &request, answer, turn)
+    hand_to(world, plan, me, &request, answer, given, turn)
 }
 
 fn hand_all(
     world: &mut World,
     plan: &Plan,
-    queue: Items<(Invocation, Answer)>,
+    queue: &mut Items<(Invocation, Answer)>,
+    given: &mut ClientOut,
     turn: &mut Turn,
 ) -> Result<(), NoMemory>
-    requires { HasRoomFor (hand_all plan.now queue) world.old turn.old }
-    ensures { OnOk result (Leads (hand_all plan.now queue) world.old turn.old world.new turn.new) }
+    requires { HasRoomFor (hand_all plan.now queue.old) world.old turn.old }
+    ensures { OnOk result (Leads (hand_all plan.now queue.old) world.old turn.old world.new turn.new) }
 {
-    for (request, answer) in queue.into_vec() {
-        hand_on(world, plan, request, answer, turn)?;
+    let mut answers = take_backwards(world.alloc, queue);
+    while let Some((request, answer)) = answers.pop() {
+        hand_on(world, plan, request, answer, given, turn)?;
     }
+    *queue = Items::from_vec(answers);
     Ok(())
 }
 
+/// The answers that wait are taken out. The next ones come into the spare list's memory.
+fn take_queue(
+    alloc: Global,
+    queue: &mut Items<(Invocation, Answer)>,
+    spare: &mut Items<(Invocation, Answer)>,
+) -> Items<(Invocation, Answer)>
+    ensures taken { result ≡ queue.old }
+    ensures left { queue.new ≡ [] }
+{
+    empty(alloc, spare);
+    let next = mem::replace(spare, Items::new(alloc));
+    mem::replace(queue, next)
+}
+
 /// The answers that wait are handed on in their order. Answers that come meanwhile wait behind them.
-pub fn handed(world: &mut World, plan: &Plan, turn: &mut Turn) -> Result<(), NoMemory>
+pub fn handed(
+    world: &mut World,
+    plan: &Plan,
+    given: &mut ClientOut,
+    turn: &mut Turn,
+) -> Result<(), NoMemory>
     requires { HasRoomFor (handed plan.now) world.old turn.old }
     ensures { OnOk result (Leads (handed plan.now) world.old turn.old world.new turn.new) }
 {
-    let queue = mem::replace(&mut world.queue, Items::new(world.alloc));
-    hand_all(world, plan, queue, turn)
+    if world.queue.is_empty() {
+        return Ok(());
+    }
+    let mut queue = take_queue(world.alloc, &mut world.queue, &mut world.spare);
+    hand_all(world, plan, &mut queue, given, turn)?;
+    world.spare = queue;
+    Ok(())
 }

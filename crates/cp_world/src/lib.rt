@@ -6,7 +6,9 @@ mod committing;
 mod copying;
 mod event;
 mod handing;
+mod reusing;
 mod turn;
 mod world;
 
+pub use turn::Turn;
 pub use world::World;

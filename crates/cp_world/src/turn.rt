@@ -1,12 +1,13 @@
 //! What an event shows and commits.
 ghost use Rattle.std.specs.Prelude.{◌≡◌, [], None};
 
+use crate::reusing::empty;
 use cp_base::{ClientNo, Items};
-use cp_events::{Effects, Event, Ignored, Opened, Return};
+use cp_events::{Ignored, Opened, Return};
 use cp_ops::Entry;
 use std::alloc::Global;
 
-/// What the event under way shows so far, and the entries that it committed.
+/// What an event shows besides itself, and the entries that it committed.
 #[derive(Debug, Drop)]
 pub struct Turn {
     /// The event's number.
@@ -18,12 +19,10 @@ pub struct Turn {
 }
 
 impl Turn {
-    /// The event of this number begins.
-    pub fn new(alloc: Global, number: u64) -> Turn
-        ensures { result ≡ record { number = number; ignored = None; opened = []; returns = []; entries = [] } }
-    {
+    /// Nothing.
+    pub fn new(alloc: Global) -> Turn {
         Turn {
-            number,
+            number: 0,
             ignored: None,
             opened: Items::new(alloc),
             returns: Items::new(alloc),
@@ -31,25 +30,14 @@ impl Turn {
         }
     }
 
-    /// What the event shows, and the entries that it committed.
-    pub fn close(self, event: Event) -> (Effects, Items<Entry>)
-        ensures effects { result.0 ≡ record { number = self.number; event = event; ignored = self.ignored; opened = self.opened; returns = self.returns } }
-        ensures entries { result.1 ≡ self.entries }
+    /// The event of this number begins.
+    pub(crate) fn start(&mut self, alloc: Global, number: u64)
+        ensures { self.new ≡ record { number = number; ignored = None; opened = []; returns = []; entries = [] } }
     {
-        let Turn {
-            number,
-            ignored,
-            opened,
-            returns,
-            entries,
-        } = self;
-        let effects = Effects {
-            number,
-            event,
-            ignored,
-            opened,
-            returns,
-        };
-        (effects, entries)
+        self.number = number;
+        self.ignored = None;
+        empty(alloc, &mut self.opened);
+        empty(alloc, &mut self.returns);
+        empty(alloc, &mut self.entries);
     }
 }

@@ -5,12 +5,12 @@ ghost use Rattle.cp_world.specs.Following.{Follows, IsStep};
 ghost use Rattle.cp_world.specs.Rooms.{IsReached};
 
 use crate::event;
+use crate::turn::Turn;
 use cp_answers::Answer;
 use cp_base::{Invocation, Items, NoMemory};
-use cp_client::Client;
-use cp_events::{Effects, Event, Plan};
+use cp_client::{Client, ClientOut};
+use cp_events::{Event, Plan};
 use cp_group_tables::GroupTables;
-use cp_ops::Entry;
 use std::alloc::Global;
 use std::collections::BTreeMap;
 
@@ -28,6 +28,10 @@ pub struct World {
     pub(crate) events: u64,
     /// The answers that wait to be handed on.
     pub(crate) queue: Items<(Invocation, Answer)>,
+    /// Memory for the next queue, of no items.
+    pub(crate) spare: Items<(Invocation, Answer)>,
+    /// Memory for what the next step of a client gives.
+    pub(crate) given: ClientOut,
 }
 
 impl World {
@@ -42,14 +46,16 @@ impl World {
             entries: 0,
             events: 0,
             queue: Items::new(alloc),
+            spare: Items::new(alloc),
+            given: ClientOut::new(alloc),
         })
     }
 
-    /// The next event: what it shows, and the entries that it committed.
-    pub fn step(&mut self, plan: &Plan, event: Event) -> Result<(Effects, Items<Entry>), NoMemory>
+    /// The next event. What it shows and the entries that it committed stand in the turn afterwards.
+    pub fn step(&mut self, plan: &Plan, event: &Event, turn: &mut Turn) -> Result<(), NoMemory>
         requires { IsReached plan.now self.old }
-        ensures { IfOk result (λ done. (w : Rules) → Follows w self.old → IsStep plan.now event w self.new done.0 done.1) }
+        ensures { OnOk result ((w : Rules) → Follows w self.old → IsStep plan.now event.now w self.new turn.new) }
     {
-        event::step(self, plan, event)
+        event::step(self, plan, event, turn)
     }
 }

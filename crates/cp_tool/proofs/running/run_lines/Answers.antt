@@ -1,49 +1,36 @@
-use Rattle.std.proofs.Common.{◌≡◌, ◌∷◌, ◌∙◌, ap, sym, length, subst, arith}
-use Rattle.std.specs.Vec.Iter.{into_iter_items}
+use Rattle.std.proofs.Common.{◌≡◌, ◌+◌, ◌∙◌, take, ap, subst, arith}
+use Rattle.cp_run.specs.Execution.{events_of}
+use Rattle.cp_schedule.specs.Reading.{line_of_event}
 use Rattle.cp_tool.specs.Running.{Runs}
-use Rattle.cp_tool.proofs.Limiting.{next_line, next_events, kept_more, limit_here, runs_all, kept_all}
+use Rattle.cp_tool.proofs.Limiting.{next_events, kept_more, limit_here, runs_all, kept_all}
 use Rattle.cp_tool.proofs.running.run_lines.Goals as goal
 
 pub overflow_add-place : goal.overflow_add-place
-overflow_add-place c =
-    let next = next_line c.args.lines c.loop-line.place c.in-Some.line (into_iter_items c.next.new.self) (c.loop-line.invariant.left ∙ c.in-Some.ensures.steps.0) in
-    omega (arith, next.0, c.requires.few)
+overflow_add-place c = omega (arith, c.loop-line.invariant.counted, c.loop-line-test.true, c.requires.few)
 
 pub line_of_event-requires-clause-place : goal.line_of_event-requires-clause-place
-line_of_event-requires-clause-place c =
-    let next = next_line c.args.lines c.loop-line.place c.in-Some.line (into_iter_items c.next.new.self) (c.loop-line.invariant.left ∙ c.in-Some.ensures.steps.0) in
-    omega (arith, next.0, c.requires.few)
+line_of_event-requires-clause-place c = omega (arith, c.loop-line.invariant.counted, c.loop-line-test.true, c.requires.few)
 
 pub returns-in-Err-Limit-clause-err : goal.returns-in-Err-Limit-clause-err
-returns-in-Err-Limit-clause-err c =
-    let next = next_line c.args.lines c.loop-line.place c.in-Some.line (into_iter_items c.next.new.self) (c.loop-line.invariant.left ∙ c.in-Some.ensures.steps.0) in
-    limit_here c.args.plan.now c.args.lines c.loop-line.place c.line_of_event.result c.in-Some.line c.in-Err-Limit.name c.loop-line.running
-    next.0 next.1 c.line_of_event.ensures c.loop-line.invariant.runs c.loop-line.invariant.kept
-    (rw c.in-Err-Limit.field-0-is at c.in-Err-Limit.ensures.err)
+returns-in-Err-Limit-clause-err c = rw c.in-Err-Limit.field-0-is
+    (limit_here c.args.plan.now c.args.lines.now c.loop-line.line-index c.line_of_event.result c.line-item.result c.in-Err-Limit.name c.loop-line.running
+    c.loop-line-test.true c.line-item.is (c.line_of_event.ensures ∙ ap (λ n. line_of_event c.args.plan.now n) c.loop-line.invariant.counted) c.loop-line.invariant.runs c.loop-line.invariant.kept
+    (rw c.in-Err-Limit.field-0-is at c.in-Err-Limit.ensures.err))
 
 pub loop-line-preserved : goal.loop-line-preserved
 loop-line-preserved c =
-    let steps : into_iter_items c.loop-line.line-iterator ≡ c.in-Some.line ∷ into_iter_items c.next.new.self = c.in-Some.ensures.steps.0 in
-    let next = next_line c.args.lines c.loop-line.place c.in-Some.line (into_iter_items c.next.new.self) (c.loop-line.invariant.left ∙ steps) in
-    let runs = subst (λ es. Runs c.args.plan.now es c.run_line.new.running)
-    (next_events c.args.lines c.loop-line.place c.in-Some.line next.0 next.1)
+    let runs : Runs c.args.plan.now (events_of (take (c.loop-line.line-index + 1) c.args.lines.now)) c.run_line.new.running =
+    subst (λ es. Runs c.args.plan.now es c.run_line.new.running)
+    (next_events c.args.lines.now c.loop-line.line-index c.line-item.result c.loop-line-test.true c.line-item.is)
     (c.in-Ok.ensures.ok.runs _ c.loop-line.invariant.runs) in
     record {
-      left = next.2;
-      count = (let was = c.loop-line.invariant.count in
-          let gone = c.in-Some.ensures.steps.1 in
-          let short = ap length steps in
-          omega arith);
+      counted = ap (λ n. n + 1) c.loop-line.invariant.counted;
       runs = runs;
-      kept = kept_more c.args.plan.now c.args.lines c.loop-line.place c.loop-line.invariant.kept runs.kept;
+      kept = kept_more c.args.plan.now c.args.lines.now c.loop-line.line-index c.loop-line.invariant.kept runs.kept;
     }
 
 pub returns-clause-ok : goal.returns-clause-ok
-returns-clause-ok c =
-    runs_all c.args.plan.now c.args.lines c.loop-line.place (into_iter_items c.loop-line.line-iterator) c.loop-line.running c.loop-line.invariant.left
-    (sym c.loop-line.invariant.count ∙ c.in-None.ensures.steps.0) c.loop-line.invariant.runs
+returns-clause-ok c = runs_all c.args.plan.now c.args.lines.now c.loop-line.line-index c.loop-line.running c.loop-line-test.false c.loop-line.invariant.runs
 
 pub returns-clause-kept : goal.returns-clause-kept
-returns-clause-kept c =
-    kept_all c.args.plan.now c.args.lines c.loop-line.place (into_iter_items c.loop-line.line-iterator) c.loop-line.invariant.left
-    (sym c.loop-line.invariant.count ∙ c.in-None.ensures.steps.0) c.loop-line.invariant.kept
+returns-clause-kept c = kept_all c.args.plan.now c.args.lines.now c.loop-line.line-index c.loop-line-test.false c.loop-line.invariant.kept

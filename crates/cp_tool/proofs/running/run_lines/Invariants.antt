@@ -1,5 +1,4 @@
-use Rattle.std.proofs.Common.{◌≡◌, length, take, drop}
-use Rattle.std.specs.Vec.Iter.{into_iter_items, into_iter_len}
+use Rattle.std.proofs.Common.{◌≡◌, take}
 use Rattle.cp_run.specs.Execution.{events_of}
 use Rattle.cp_tool.specs.Limits.{KeepsLimits}
 use Rattle.cp_tool.specs.Running.{Runs}
@@ -7,8 +6,7 @@ use Rattle.cp_tool.proofs.running.run_lines.Given as goal
 
 abbrev pub invariant-loop-line : goal.invariant-loop-line
 invariant-loop-line l = record {
-  left : drop l.place l.fn.lines ≡ into_iter_items l.line-iterator;
-  count : into_iter_len l.line-iterator ≡ length (into_iter_items l.line-iterator);
-  runs : Runs l.plan (events_of (take l.place l.fn.lines)) l.running;
-  kept : KeepsLimits l.plan l.fn.lines l.place;
+  counted : l.place ≡ l.line-index;
+  runs : Runs l.plan (events_of (take l.line-index l.lines)) l.running;
+  kept : KeepsLimits l.plan l.lines l.line-index;
 }

@@ -1,15 +1,16 @@
-use Rattle.std.proofs.Common.{List, [], ◌∙◌, subst}
-use Rattle.cp_base.specs.declared.identifier.Invocation.{Invocation}
-use Rattle.cp_answers.specs.declared.answer.Answer.{Answer}
-use Rattle.cp_client.proofs.Taken.{where_ok}
-use Rattle.cp_run.specs.World.{hand_all}
-use Rattle.cp_world.specs.Following.{Leads}
-use Rattle.cp_world.proofs.Events.{handed_leads}
+use Rattle.std.proofs.Common.{refl, sym}
+use Rattle.cp_client.proofs.Cases.{no_items}
+use Rattle.cp_run.specs.World.{handed}
+use Rattle.cp_world.proofs.Events.{handed_leads, leads_same, none_handed, queue_room}
 use Rattle.cp_world.proofs.handing.handed.Goals as goal
 
+pub returns-then-is_empty : goal.returns-then-is_empty
+returns-then-is_empty c = none_handed c.args.plan.now c.args.world.now c.args.turn.now (no_items c.args.world.now.queue (sym c.if-is_empty.ensures))
+
+pub hand_all-requires : goal.hand_all-requires
+hand_all-requires c = queue_room c.args.plan.now c.args.world.now _ c.args.turn.now c.take_queue-queue.result refl refl refl refl c.take_queue-queue.ensures.left c.take_queue-queue.ensures.taken c.requires
+
 pub returns : goal.returns
-returns c = where_ok c.hand_all.result
-    (λ l. handed_leads c.args.plan.now c.args.world.now c.args.turn.now c.hand_all.new.world c.hand_all.new.turn
-    (subst (λ (q : List (Invocation × Answer)). Leads (hand_all c.args.plan.now q) (record c.args.world.now { queue = [] }) c.args.turn.now c.hand_all.new.world c.hand_all.new.turn) c.replace-queue.ensures.value
-    (subst (λ (q : List (Invocation × Answer)). Leads (hand_all c.args.plan.now c.replace-queue.result) (record c.args.world.now { queue = q }) c.args.turn.now c.hand_all.new.world c.hand_all.new.turn) (c.replace-queue.ensures.after ∙ c.new.ensures) l)))
-    c.hand_all.ensures
+returns c = leads_same (handed c.args.plan.now) c.args.world.now c.args.turn.now c.hand_all.new.world _ c.hand_all.new.turn refl refl refl refl refl
+    (handed_leads c.args.plan.now c.args.world.now _ c.args.turn.now c.take_queue-queue.result refl refl refl refl c.take_queue-queue.ensures.left c.take_queue-queue.ensures.taken
+    c.hand_all.new.world c.hand_all.new.turn c.in_ok-hand_all.ensures)
