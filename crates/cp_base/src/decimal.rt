@@ -1,5 +1,5 @@
 //! Decimal text of numbers: no leading zero, no plus sign, no `-0`.
-ghost use Rattle.std.specs.Prelude.{◌≡◌, ◌++◌, OnErr, OnOk, bytes_eq};
+ghost use Rattle.std.specs.Prelude.{◌≡◌, ◌<◌, ◌++◌, OnErr, OnOk, bytes_eq};
 ghost use Rattle.std.specs.Fmt.{decimal, signed_decimal};
 ghost use Rattle.cp_base.specs.Decimals.{ReadsDecimal, ReadsSigned};
 
@@ -60,11 +60,28 @@ pub fn read_signed(bytes: &[u8]) -> Option<i64>
     }
 }
 
+/// Appends a number of one digit, or leaves the bytes.
+#[tactic(auto, using(std::proofs::lemmas::Fmt::decimal_digit))]
+fn write_digit(number: u64, out: &mut Vec<u8>) -> Result<(), NoMemory>
+    requires { number < 10 }
+    ensures ok { OnOk result (out.new.items ≡ out.old.items ++ decimal number) }
+    ensures err { OnErr result (out.new.items ≡ out.old.items) }
+{
+    match out.push(b'0' + number as u8) {
+        Ok(()) => Ok(()),
+        Err(_) => Err(NoMemory),
+    }
+}
+
 /// Appends the decimal of a number, or leaves the bytes.
 pub fn write_decimal(number: u64, out: &mut Vec<u8>) -> Result<(), NoMemory>
     ensures ok { OnOk result (out.new.items ≡ out.old.items ++ decimal number) }
     ensures err { OnErr result (out.new.items ≡ out.old.items) }
 {
+    // Most numbers of a text are small.
+    if number < 10 {
+        return write_digit(number, out);
+    }
     let mut buffer = Buffer::new();
     match out.extend_from_slice(buffer.format(number).as_bytes()) {
         Ok(()) => Ok(()),

@@ -1,13 +1,13 @@
 //! Readers and writers of words, each with the byte that ends it.
 
-ghost use Rattle.std.specs.Prelude.{◌≡◌, ◌≤◌, ◌<◌, ◌^◌, ◌++◌, [], ◌∷◌, length, take, drop, IsTrue, OnOk, MatchOption, IfOk};
+ghost use Rattle.std.specs.Prelude.{◌≡◌, ◌≤◌, ◌<◌, ◌^◌, ◌++◌, [], ◌∷◌, length, take, drop, IsTrue, OnOk, MatchOption, IfOk, IfSome};
 ghost use Rattle.std.specs.Fmt.{decimal};
 ghost use Rattle.std.specs.Str.Parse.{digits_value};
 ghost use Rattle.cp_spelling.specs.Readers.{Reads, Gives};
 ghost use Rattle.cp_grammar.specs.Words.{is_end, before_end, from_end, token_reading, word, is_decimal, number_word_reading, same_token};
 
 use crate::stop::Stop;
-use cp_base::NoMemory;
+use cp_base::{NoMemory, write_decimal};
 use itoa::Buffer;
 
 /// The byte that parts two words.
@@ -67,11 +67,28 @@ pub fn is_token(word: &[u8], end: u8, text: &[u8], wanted: u8) -> bool
     word == text && end == wanted
 }
 
+/// The number that a word of one digit spells.
+fn read_digit(word: &[u8]) -> Option<u64>
+    ensures { IfSome result (λ n. IsTrue (is_decimal word.now) × (n ≡ digits_value 10 word.now)) }
+{
+    let [digit] = word else {
+        return None;
+    };
+    if *digit < b'0' || *digit > b'9' {
+        return None;
+    }
+    Some(u64::from(*digit - b'0'))
+}
+
 /// The number that a word spells, with no leading zero.
 #[tactic(auto, unfolding(cp_grammar::specs::Words::is_decimal))]
 pub fn read_own_decimal(word: &[u8]) -> Option<u64>
     ensures { MatchOption result (IsTrue (is_decimal word.now) → 2 ^ 64 ≤ digits_value 10 word.now) (λ n. IsTrue (is_decimal word.now) × (n ≡ digits_value 10 word.now)) }
 {
+    // Most numbers of a text are small.
+    if let Some(n) = read_digit(word) {
+        return Some(n);
+    }
     let Ok(text) = str::from_utf8(word) else {
         return None;
     };
@@ -106,8 +123,7 @@ pub fn take_number_word(bytes: &[u8], wanted: u8, most: u64) -> Result<(u64, &[u
 pub fn append_number_word(value: u64, end: u8, out: &mut Vec<u8>) -> Result<(), NoMemory>
     ensures { OnOk result (out.new.items ≡ out.old.items ++ (decimal value ++ end ∷ [])) }
 {
-    let mut buffer = Buffer::new();
-    out.extend_from_slice(buffer.format(value).as_bytes())?;
+    write_decimal(value, out)?;
     out.push(end)?;
     Ok(())
 }

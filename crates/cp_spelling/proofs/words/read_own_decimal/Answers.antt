@@ -2,8 +2,8 @@ use Rattle.std.proofs.Common.{◌<◌, ◌^◌, arith, sym, ◌∙◌}
 use Rattle.cp_grammar.proofs.WordLaws.{no_text, no_number, written, other}
 use Rattle.cp_spelling.proofs.words.read_own_decimal.Goals as goal
 
-pub returns-in_default : goal.returns-in_default
-returns-in_default c = no_text c.args.word.now c.in_default.ensures.cases.0
+pub returns-in_default-from_utf8 : goal.returns-in_default-from_utf8
+returns-in_default-from_utf8 c = no_text c.args.word.now c.in_default-from_utf8.ensures.cases.0
 
 pub returns-in_default-parse : goal.returns-in_default-parse
 returns-in_default-parse c = no_number c.args.word.now c.in-Ok.text.now c.parse.result c.in-Ok.ensures.cases.0 c.parse.ensures.value.0 c.in_default-parse.not-Ok
