@@ -46,14 +46,25 @@ fn read_parts(
     }))
 }
 
+/// The object that a word is, where a call may name it.
+fn read_object(alloc: Global, managed: bool, word: &[u8]) -> Result<Option<Object>, NoMemory>
+    ensures { IfOk result (λ read. MatchOption read (is_object managed (object_of word.now) ≡ false) (λ object. (is_object managed (object_of word.now) ≡ true) × (object ≡ object_of word.now))) }
+{
+    // Most calls name no group.
+    if let Some(name) = read_name(alloc, word)? {
+        return Ok(Some(Object { name, group: None }));
+    }
+    let (name, group) = split(word);
+    read_parts(alloc, managed, name, group)
+}
+
 /// An object, and a space after it.
 #[tactic(auto, unfolding(crate::specs::Objects::object_word))]
 pub fn take_object(alloc: Global, managed: bool, bytes: &[u8]) -> Result<(Object, &[u8]), Stop>
     ensures { Reads result ((object_word managed).reading bytes.now) }
 {
     let (word, rest) = take_word(bytes, SPACE)?;
-    let (name, group) = split(word);
-    match read_parts(alloc, managed, name, group)? {
+    match read_object(alloc, managed, word)? {
         Some(object) => Ok((object, rest)),
         None => Err(Stop::Left(bytes.len())),
     }

@@ -38,18 +38,30 @@ fn copy_of(answer: &Answer) -> Result<Answer, NoMemory>
 }
 
 impl GroupTables {
-    /// The call that names a session is its thread's last one there, with this answer, or waits.
-    fn remember(
+    /// The call that names a session is its thread's last one there, with this answer.
+    fn remember_answer(
         &mut self,
         session: Option<u64>,
         call: &Invocation,
-        answer: Option<Answer>,
+        answer: &Answer,
     ) -> Result<(), NoMemory>
-        ensures { OnOk result (self.new ≡ remembered session call.now answer self.old) }
+        ensures { OnOk result (self.new ≡ remembered session call.now (Some answer.now) self.old) }
+    {
+        if let Some(session) = session {
+            let copy = copy_of(answer)?;
+            self.memory
+                .remember(session, call.thread, call.number, Some(copy))?;
+        }
+        Ok(())
+    }
+
+    /// The call that names a session is its thread's last one there, and waits.
+    fn remember_wait(&mut self, session: Option<u64>, call: &Invocation) -> Result<(), NoMemory>
+        ensures { OnOk result (self.new ≡ remembered session call.now None self.old) }
     {
         if let Some(session) = session {
             self.memory
-                .remember(session, call.thread, call.number, answer)?;
+                .remember(session, call.thread, call.number, None)?;
         }
         Ok(())
     }
@@ -66,8 +78,7 @@ impl GroupTables {
         ensures state { OnOk result (self.new ≡ remembered session call.now (Some answer) self.old) }
         ensures told { OnOk result (out.new ≡ out.old ++ (call.now, answer) ∷ ended) }
     {
-        let copy = copy_of(&answer)?;
-        self.remember(session, call, Some(copy))?;
+        self.remember_answer(session, call, &answer)?;
         out.push((*call, answer))?;
         append(out, ended)
     }
@@ -88,7 +99,7 @@ impl GroupTables {
             return Ok(());
         }
         match self.waits.join(waiter) {
-            Ok(()) => self.remember(session, call, None),
+            Ok(()) => self.remember_wait(session, call),
             Err(WaitError::TableFull(most)) => {
                 let none = Items::new(self.alloc);
                 self.settle_answer(session, call, Answer::TableFull(most), none, out)

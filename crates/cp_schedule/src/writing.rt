@@ -10,24 +10,25 @@ use cp_call_words::put_shown_user_op;
 use cp_events::{Event, UserOp};
 use cp_op_values::append_numbered;
 
-/// Most calls are shorter than this, in bytes.
-const USUAL: usize = 128;
-
 /// Appends a call as it is shown, with its line feed.
-fn append_call(op: &UserOp, out: &mut Vec<u8>) -> Result<(), NoMemory>
+fn append_call(op: &UserOp, scratch: &mut Vec<u8>, out: &mut Vec<u8>) -> Result<(), NoMemory>
     ensures ok { OnOk result (out.new.items ≡ out.old.items ++ call_text (shown op.now)) }
     ensures grew { Grew out.old.items out.new.items }
 {
-    let mut call = Vec::with_capacity(*out.allocator(), USUAL)?;
-    put_shown_user_op(op, &mut call)?;
-    out.extend_from_slice(&call)?;
+    scratch.clear();
+    put_shown_user_op(op, scratch)?;
+    out.extend_from_slice(scratch)?;
     Ok(())
 }
 
 /// Appends the line of an event as a transcript shows it behind the event's number, with its line feed; where memory
-/// runs out, a front of it may stand in `out`.
+/// runs out, a front of it may stand in `out`. What stood in `scratch` is lost.
 #[tactic(auto, unfolding(crate::specs::Events::event_line, crate::specs::Events::line_words, cp_value_words::specs::Values::member_word, crate::specs::Events::client_word, crate::specs::Events::thread_word, crate::specs::Events::crash_words, crate::specs::Events::stop_words))]
-pub fn append_event_line(event: &Event, out: &mut Vec<u8>) -> Result<(), NoMemory>
+pub fn append_event_line(
+    event: &Event,
+    scratch: &mut Vec<u8>,
+    out: &mut Vec<u8>,
+) -> Result<(), NoMemory>
     ensures ok { OnOk result (out.new.items ≡ out.old.items ++ shown_event_line event.now) }
     ensures grew { Grew out.old.items out.new.items }
 {
@@ -47,7 +48,7 @@ pub fn append_event_line(event: &Event, out: &mut Vec<u8>) -> Result<(), NoMemor
             append_numbered(b"call ", u64::from(client.0), out)?;
             append_numbered(b" ", u64::from(thread.0), out)?;
             out.push(b' ')?;
-            append_call(op, out)?;
+            append_call(op, scratch, out)?;
         }
         Event::Deliver(message) => {
             append_numbered(b"deliver ", *message, out)?;

@@ -10,13 +10,18 @@ use cp_events::{Ending, Event, Ignored, Opened, Return};
 use cp_op_values::append_numbered;
 use cp_schedule::append_event_line;
 
-fn append_event(number: u64, event: &Event, out: &mut Vec<u8>) -> Result<(), NoMemory>
+fn append_event(
+    number: u64,
+    event: &Event,
+    scratch: &mut Vec<u8>,
+    out: &mut Vec<u8>,
+) -> Result<(), NoMemory>
     ensures ok { OnOk result (out.new.items ≡ out.old.items ++ event_line number event.now) }
     ensures grew { Grew out.old.items out.new.items }
 {
     write_decimal(number, out)?;
     out.push(b' ')?;
-    append_event_line(event, out)?;
+    append_event_line(event, scratch, out)?;
     Ok(())
 }
 
@@ -133,32 +138,35 @@ fn append_effects(
     ignored: &Option<Ignored>,
     opened: &[(ClientNo, Opened)],
     returns: &[(ClientNo, Return)],
+    scratch: &mut Vec<u8>,
     out: &mut Vec<u8>,
 ) -> Result<(), NoMemory>
     ensures ok { OnOk result (out.new.items ≡ out.old.items ++ effects_lines (record { number = number; event = event.now; ignored = ignored.now; opened = opened.now; returns = returns.now })) }
     ensures grew { Grew out.old.items out.new.items }
 {
-    append_event(number, event, out)?;
+    append_event(number, event, scratch, out)?;
     append_ignored(ignored, out)?;
     append_all_opened(opened, out)?;
     append_returns(returns, out)?;
     Ok(())
 }
 
-/// Appends the lines of an event: its number and text, and what it did. Where memory runs out, `out` is left.
+/// Appends the lines of an event: its number and text, and what it did. Where memory runs out, `out` is left. What stood
+/// in `scratch` is lost.
 pub fn write_effects(
     number: u64,
     event: &Event,
     ignored: &Option<Ignored>,
     opened: &[(ClientNo, Opened)],
     returns: &[(ClientNo, Return)],
+    scratch: &mut Vec<u8>,
     out: &mut Vec<u8>,
 ) -> Result<(), NoMemory>
     ensures ok { OnOk result (out.new.items ≡ out.old.items ++ effects_lines (record { number = number; event = event.now; ignored = ignored.now; opened = opened.now; returns = returns.now })) }
     ensures err { OnErr result (out.new.items ≡ out.old.items) }
 {
     let mark = out.len();
-    let written = append_effects(number, event, ignored, opened, returns, out);
+    let written = append_effects(number, event, ignored, opened, returns, scratch, out);
     if written.is_err() {
         out.truncate(mark);
     }

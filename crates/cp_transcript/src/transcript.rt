@@ -24,6 +24,8 @@ pub struct Transcript {
     /// How many lines the history has.
     pub rows: u64,
     pub history: Vec<u8>,
+    /// Memory for the text of a call.
+    pub scratch: Vec<u8>,
 }
 
 impl Transcript {
@@ -35,6 +37,7 @@ impl Transcript {
             text: Vec::from_slice(alloc, b"cp 1 transcript\n0 open\n")?,
             rows: 0,
             history: Vec::new(alloc),
+            scratch: Vec::new(alloc),
         })
     }
 
@@ -51,7 +54,15 @@ impl Transcript {
         ensures tells { OnOk result ((shown : List Effects) (history : List Committed) → Tells shown history self.old
             → Tells (shown ++ record { number = number; event = event.now; ignored = ignored.now; opened = opened.now; returns = returns.now } ∷ []) history self.new) }
     {
-        write_effects(number, event, ignored, opened, returns, &mut self.text)?;
+        write_effects(
+            number,
+            event,
+            ignored,
+            opened,
+            returns,
+            &mut self.scratch,
+            &mut self.text,
+        )?;
         Ok(())
     }
 
@@ -93,6 +104,7 @@ impl Transcript {
             mut text,
             rows,
             history,
+            scratch: _,
         } = self;
         append_history(rows, &history, &mut text)?;
         text.extend_from_slice(END)?;
