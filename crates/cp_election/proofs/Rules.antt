@@ -1,21 +1,17 @@
 -- The rules do what is decided: each `if` one side after the other.
-use Rattle.std.proofs.Common.{◌≡◌, ◌==◌, ◌&&◌, not, ℕ, suc, Bool, true, false, [], length, refl, Option, Some, None, nat_lt, if◌then◌else◌, option_map}
-use Rattle.cp_step.specs.declared.ballot.Ballot.{Ballot}
-use Rattle.cp_step.specs.declared.log_end.LogEnd.{LogEnd}
-use Rattle.cp_store_state.specs.Persistent.{PersistentState, last}
-use Rattle.cp_step.specs.Persistent.{StatePart, ballot, ballot_part, log_end, members, is_member}
+use Rattle.std.proofs.Common.{◌≡◌, ◌==◌, ◌&&◌, not, ℕ, suc, Bool, true, false, [], length, refl, Some, None, nat_lt, if◌then◌else◌, option_map}
+use Rattle.cp_store_state.specs.Persistent.{last}
+use Rattle.cp_step.specs.Persistent.{StatePart, ballot, log_end, members, is_member}
 use Rattle.cp_step.specs.Volatile.{VolatileState, silence}
-use Rattle.cp_step.specs.Local.{LocalStep, does, reply, PreVoteReply, VoteReply, is_candidate, is_pre_candidate}
-use Rattle.cp_step.specs.Terms.{adopted, steps_down_for, adopts}
+use Rattle.cp_step.specs.Local.{does, reply, PreVoteReply, is_candidate, is_pre_candidate}
+use Rattle.cp_step.specs.Terms.{adopted, adopts}
 use Rattle.cp_step.specs.Leadership.{takes_leadership}
-use Rattle.cp_step.specs.PreVotes.{may_stand, is_up_to_date, hears_no_leader, grants_prevote, stands, with_vote, counts_prevote}
+use Rattle.cp_step.specs.PreVotes.{may_stand, is_up_to_date, grants_prevote, stands, with_vote, counts_prevote}
 use Rattle.cp_step.specs.Votes.{grants_vote, counts_vote}
 use Rattle.cp_election.specs.declared.replying.VoteReplied.TheVariants.{Adopted, Counted, Ignored}
 use Rattle.cp_election.specs.declared.waiting.Stand.TheVariants.{Waits, Leads, Asks}
 use Rattle.cp_election.specs.declared.voting.VoteAnswer.{VoteAnswer}
-use Rattle.cp_election.specs.declared.voting.Would.{Would}
-use Rattle.cp_election.specs.Decisions.{to_write}
-use Rattle.cp_election.specs.Laws.{stood, would, voted, after_prevote_reply, after_vote_reply, heard_by, BallotsAreWritten, TicksStandAsDecided, PreVotesGoAsDecided, PreVoteRepliesGoAsDecided, VotesGoAsDecided, VoteRepliesGoAsDecided}
+use Rattle.cp_election.specs.Laws.{stood, would, voted, after_prevote_reply, after_vote_reply, BallotsAreWritten, TicksStandAsDecided, PreVotesGoAsDecided, PreVoteRepliesGoAsDecided, VotesGoAsDecided, VoteRepliesGoAsDecided}
 
 -- what is made of either side
 pub of_if : {A B : Type 0} (f : A → B) (c : Bool) (a b : A) (x y : B) → x ≡ f a → y ≡ f b → (if c then x else y) ≡ f (if c then a else b)

@@ -1,5 +1,5 @@
 -- The rules do what is decided.
-use Rattle.std.specs.Prelude.{◌≡◌, ℕ, suc, Bool, true, false, [], Option, Some, None, option_map}
+use Rattle.std.specs.Prelude.{◌≡◌, ℕ, suc, Bool, true, false, [], None, option_map}
 use Rattle.cp_step.specs.declared.ballot.Ballot.{Ballot}
 use Rattle.cp_step.specs.declared.log_end.LogEnd.{LogEnd}
 use Rattle.cp_store_state.specs.Persistent.{PersistentState, last}

@@ -1,35 +1,28 @@
 -- What a read is answered is what the rule of its operation answers, and the rule changes nothing.
-use Rattle.std.proofs.Common.{◌≡◌, ℕ, Bool, true, false, List, ℤ, Option, Some, None, refl, ap, sym, ◌∙◌, if◌then◌else◌}
+use Rattle.std.proofs.Common.{◌≡◌, ℕ, Bool, true, false, Option, Some, None, refl, ap, sym, ◌∙◌, if◌then◌else◌}
 use Rattle.std.specs.Prelude.{◌==◌}
 use Rattle.std.specs.Option.{option_map}
 use Rattle.cp_base.specs.declared.identifier.Invocation.{Invocation}
 use Rattle.cp_answers.specs.declared.answer.Answer.{Answer}
 use Rattle.cp_answers.specs.declared.answer.Answer.TheVariants as answer
 use Rattle.cp_op_values.specs.declared.kind.Kind.TheVariants as kind
-use Rattle.cp_object_ops.specs.declared.long_op.LongOp.{LongOp}
 use Rattle.cp_object_ops.specs.declared.long_op.LongOp.TheVariants as long
-use Rattle.cp_object_ops.specs.declared.ref_op.RefOp.{RefOp}
 use Rattle.cp_object_ops.specs.declared.ref_op.RefOp.TheVariants as ref
-use Rattle.cp_object_ops.specs.declared.lock_op.LockOp.{LockOp}
 use Rattle.cp_object_ops.specs.declared.lock_op.LockOp.TheVariants as lock
-use Rattle.cp_object_ops.specs.declared.sem_op.SemOp.{SemOp}
 use Rattle.cp_object_ops.specs.declared.sem_op.SemOp.TheVariants as sem
-use Rattle.cp_object_ops.specs.declared.latch_op.LatchOp.{LatchOp}
 use Rattle.cp_object_ops.specs.declared.latch_op.LatchOp.TheVariants as latch
-use Rattle.cp_object_ops.specs.declared.map_op.MapOp.{MapOp}
 use Rattle.cp_object_ops.specs.declared.map_op.MapOp.TheVariants as map
 use Rattle.cp_ops.specs.declared.op.Op.{Op}
 use Rattle.cp_ops.specs.declared.op.Op.TheVariants as op
 use Rattle.cp_group_state.specs.declared.rows.SemaphoreRow.{SemaphoreRow}
 use Rattle.cp_group_state.specs.Rows.{Object, find, object_cmp}
-use Rattle.cp_group_state.specs.Atomics.{long_at, ref_at, same_value}
 use Rattle.cp_group_state.specs.Semaphores.{sem_step_on}
-use Rattle.cp_group_state.specs.SemaphoreRules.{sem_rule, on_sem, sem_wait}
+use Rattle.cp_group_state.specs.SemaphoreRules.{on_sem, sem_wait}
 use Rattle.cp_group_state.specs.GroupState.{GroupState}
 use Rattle.cp_group_state.specs.Destroying.{names_gone, object_of}
 use Rattle.cp_group_state.specs.Outcomes.{Outcome, answered}
 use Rattle.cp_group_state.specs.Apply.{outcome, rule}
-use Rattle.cp_group_reads.specs.Reads.{look, object_read, standing_answer, long_read, ref_read, lock_read, sem_read, latch_read, map_read, available_answer}
+use Rattle.cp_group_reads.specs.Reads.{look, object_read, standing_answer, available_answer}
 
 -- a rule's outcome, where that of a read is known
 Follows : ℕ → Invocation → Op → GroupState → Option Answer → Type 0

@@ -1,7 +1,6 @@
 -- Reads that are answered without an entry.
 use Rattle.std.specs.Prelude.{ℕ, ℤ, pos, List, Option, Some, None, ◌==◌, if◌then◌else◌}
 use Rattle.std.specs.Option.{option_map}
-use Rattle.cp_base.specs.declared.identifier.Invocation.{Invocation}
 use Rattle.cp_answers.specs.declared.answer.Answer.{Answer}
 use Rattle.cp_answers.specs.declared.answer.Answer.TheVariants as answer
 use Rattle.cp_op_values.specs.declared.kind.Kind.TheVariants as kind
@@ -21,11 +20,10 @@ use Rattle.cp_ops.specs.declared.op.Op.{Op}
 use Rattle.cp_ops.specs.declared.op.Op.TheVariants as op
 use Rattle.cp_group_state.specs.declared.rows.LockRow.{LockRow}
 use Rattle.cp_group_state.specs.declared.rows.LatchRow.{LatchRow}
-use Rattle.cp_group_state.specs.Rows.{Object, find, pair_cmp}
+use Rattle.cp_group_state.specs.Rows.{find, pair_cmp}
 use Rattle.cp_group_state.specs.Atomics.{long_at, ref_at, same_value}
 use Rattle.cp_group_state.specs.Locks.{lock_at}
 use Rattle.cp_group_state.specs.LockRules.{owner_answer}
-use Rattle.cp_group_state.specs.Semaphores.{Semaphores}
 use Rattle.cp_group_state.specs.Latches.{latch_at}
 use Rattle.cp_group_state.specs.Maps.{Pairs}
 use Rattle.cp_group_state.specs.GroupState.{GroupState}

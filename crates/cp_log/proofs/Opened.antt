@@ -1,6 +1,6 @@
 -- Why a store was not opened.
 use Rattle.std.proofs.Common.{◌≡◌, ◌≤◌, ◌<◌, ◌+◌, ◌-◌, ◌^◌, inl, inr, ℕ, List, sym, ◌∙◌, ap, arith}
-use Rattle.std.specs.Prelude.{◌⊎◌, Result, Ok, Err, IfErr, IfOk, MatchResult, min}
+use Rattle.std.specs.Prelude.{Result, Ok, Err, IfErr, IfOk, MatchResult}
 use Rattle.cp_journal.specs.declared.error.JournalError.{JournalError}
 use Rattle.cp_journal.specs.declared.error.JournalError.TheVariants as journal
 use Rattle.cp_journal.specs.Errors.{OpenCause as JournalCause}

@@ -1,6 +1,6 @@
 -- What the changes of a row leave of its invariants.
 use Rattle.std.proofs.Common.{◌≡◌, ◌≤◌, ◌<◌, ◌+◌, ◌-◌, ◌^◌, ◌++◌, ℕ, zero, suc, List, [], ◌∷◌, length, take, drop, refl, sym, ◌∙◌, ap, arith, length-append, length-take, length-drop}
-use Rattle.std.specs.Prelude.{Bool, true, false, Option, Some, None, nat_le, nat_lt, slice_get, slice_index_or, if◌then◌else◌}
+use Rattle.std.specs.Prelude.{Bool, true, false, Some, None, nat_le, nat_lt, slice_get, slice_index_or, if◌then◌else◌}
 use Rattle.cp_parts.specs.declared.config.Config.{Config}
 use Rattle.cp_parts.specs.declared.log_entry.LogEntry.{LogEntry}
 use Rattle.cp_store_state.specs.Persistent.{is_term}

@@ -1,6 +1,6 @@
 -- What a written part makes of the file, and of the store.
-use Rattle.std.proofs.Common.{◌≡◌, ◌≤◌, ◌<◌, ◌+◌, ◌^◌, inl, inr, ℕ, List, ◌∷◌, [], length, refl, sym, ◌∙◌, ap, subst, arith}
-use Rattle.std.specs.Prelude.{Bool, true, false, ◌⊎◌, ◌↔◌, Some, Result, Ok, Err, IsTrue, IsErrOf, IfErr, OnOk, is_ok, if◌then◌else◌}
+use Rattle.std.proofs.Common.{◌≡◌, ◌≤◌, ◌<◌, ◌+◌, ◌^◌, inl, inr, ℕ, List, length, refl, sym, ◌∙◌, ap, subst, arith}
+use Rattle.std.specs.Prelude.{Bool, true, false, ◌⊎◌, ◌↔◌, Result, Ok, Err, IsTrue, IsErrOf, IfErr, OnOk, is_ok, if◌then◌else◌}
 use Rattle.std.proofs.lemmas.Bool.{cases_lt}
 use Rattle.cp_grammar.specs.Grammar.{whole}
 use Rattle.cp_grammar.proofs.Laws.{whole_again}

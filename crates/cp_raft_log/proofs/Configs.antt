@@ -1,5 +1,5 @@
 -- Configurations at the ends of logs, and behind a place of one.
-use Rattle.std.proofs.Common.{◌≡◌, ℕ, zero, suc, ◌+◌, ◌-◌, ◌≤◌, List, [], ◌∷◌, ◌++◌, length, take, drop, refl, ap, sym, ◌∙◌, arith}
+use Rattle.std.proofs.Common.{◌≡◌, ℕ, zero, suc, ◌+◌, ◌-◌, List, [], ◌∷◌, ◌++◌, length, take, drop, refl, ap, sym, ◌∙◌, arith}
 use Rattle.std.proofs.Math.Seq.{take-length, take-nil}
 use Rattle.cp_parts.specs.Configs.{config_in}
 use Rattle.cp_parts.specs.declared.config.Config.{Config}

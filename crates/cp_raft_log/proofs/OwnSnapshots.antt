@@ -1,13 +1,11 @@
 -- What is stored with a snapshot of the member's own.
-use Rattle.std.proofs.Common.{◌≡◌, ◌≢◌, ℕ, zero, suc, ◌+◌, ◌-◌, ◌<◌, ◌≤◌, ◌==◌, List, [], ◌∷◌, ◌++◌, length, take, drop, refl, ap, sym, ◌∙◌, arith, length-drop, Bool, true, false}
+use Rattle.std.proofs.Common.{◌≡◌, ℕ, zero, suc, ◌+◌, ◌-◌, ◌<◌, ◌≤◌, ◌==◌, List, [], ◌∷◌, length, take, drop, refl, ap, sym, ◌∙◌, arith, length-drop, Bool, true, false}
 use Rattle.std.proofs.lemmas.Bool.Decides.{nat_tests}
-use Rattle.std.specs.Prelude.{Option, Some, None, slice_get, unwrap_or, nat_lt, if◌then◌else◌}
+use Rattle.std.specs.Prelude.{Option, Some, None, slice_get, unwrap_or, nat_lt}
 use Rattle.std.specs.Option.{option_map}
 use Rattle.cp_parts.specs.Heads.{head_of}
-use Rattle.cp_parts.specs.declared.config.Config.{Config}
 use Rattle.cp_parts.specs.declared.log_entry.LogEntry.{LogEntry}
 use Rattle.cp_parts.specs.declared.snapshot_head.SnapshotHead.{SnapshotHead}
-use Rattle.cp_store_state.specs.Persistent as store
 use Rattle.cp_store_state.specs.Persistent.{PersistentState, last, entry_at, term_at, suffix_behind, with_head}
 use Rattle.cp_store_state.specs.Configurations.{config_at, config_after}
 use Rattle.cp_step.specs.Persistent.{ballot, configuration, known_term, with_part, SnapshotPart}

@@ -1,5 +1,5 @@
 -- What is told of a chunk, with the bytes that it makes whole.
-use Rattle.std.proofs.Common.{◌≡◌, refl, ℕ, List, Option, Some, None}
+use Rattle.std.proofs.Common.{◌≡◌, refl, ℕ, List, Some}
 use Rattle.cp_step.specs.Snapshots as step
 use Rattle.cp_snapshot.specs.declared.assembler.Progress.TheVariants as progress
 use Rattle.cp_snapshot.specs.Decisions.{told, whole_in}

@@ -1,13 +1,12 @@
 -- What one turn of the loop over a log takes into a batch, and what a batch holds.
-use Rattle.std.proofs.Common.{◌≡◌, ℕ, zero, suc, ◌+◌, ◌-◌, ◌<◌, ◌≤◌, ◌&&◌, ⊎_elim, Bool, true, false, List, [], ◌∷◌, length, take, drop, refl, ap, sym, ◌∙◌, arith, Option, Some, None, option_map, slice_get, nat_lt, nat_le, max, if◌then◌else◌}
+use Rattle.std.proofs.Common.{◌≡◌, ℕ, zero, suc, ◌+◌, ◌-◌, ◌<◌, ◌≤◌, ⊎_elim, true, false, List, [], ◌∷◌, length, take, drop, refl, ap, sym, ◌∙◌, arith, Option, Some, None, option_map, slice_get, nat_lt, nat_le}
 use Rattle.std.proofs.lemmas.Bool.{cases_Bool, lt-ltb, leb-true}
-use Rattle.std.proofs.lemmas.Grind.{common_steps}
-use Rattle.std.proofs.lemmas.Option.{same_Some, slice_get_within}
+use Rattle.std.proofs.lemmas.Option.{same_Some}
 use Rattle.cp_parts.specs.declared.log_entry.LogEntry.{LogEntry}
 use Rattle.cp_store_state.specs.Persistent.{PersistentState, last}
 use Rattle.cp_step.specs.Sending.{within, batch}
 use Rattle.cp_replicate.specs.Logs.{size_at, fitting, from}
-use Rattle.cp_replicate.specs.Laws.{Fits, bytes_of, BatchesFit}
+use Rattle.cp_replicate.specs.Laws.{bytes_of, BatchesFit}
 
 abbrev size_in : List LogEntry → ℕ → Option ℕ
 size_in xs k = option_map (λ e. length e.bytes) (slice_get xs k)

@@ -10,21 +10,19 @@ use Rattle.cp_step.specs.declared.ballot.Ballot.{Ballot}
 use Rattle.cp_step.specs.declared.log_end.LogEnd.{LogEnd}
 use Rattle.cp_step.specs.Persistent.{AppendPart, ballot, ballot_part, members, is_member, is_term, known_term, has_term}
 use Rattle.cp_step.specs.Volatile.{VolatileState, peer, with_peer}
-use Rattle.cp_step.specs.Local.{LocalStep, does, reply, send, leads_and, Append, AppendReply, is_leader}
+use Rattle.cp_step.specs.Local.{does, reply, send, Append, AppendReply}
 use Rattle.cp_step.specs.Terms as terms
 use Rattle.cp_step.specs.Terms.{adopted, adopts}
-use Rattle.cp_step.specs.Appends.{Difference, difference, following, follower_commit, takes, goes_on, refused_index, on_append}
-use Rattle.cp_step.specs.AppendReplies.{matched_to, on_append_reply}
-use Rattle.cp_step.specs.Commit.{commits, commits_to}
-use Rattle.cp_step.specs.Sending.{append_to, batch, chunk_from, entries_from}
+use Rattle.cp_step.specs.Appends.{Difference, difference, following, takes, goes_on, refused_index}
+use Rattle.cp_step.specs.AppendReplies.{matched_to}
+use Rattle.cp_step.specs.Commit.{commits}
+use Rattle.cp_step.specs.Sending.{batch, chunk_from, entries_from}
 use Rattle.cp_election.proofs.Rules.{of_if}
-use Rattle.cp_replicate.specs.declared.following.Followed.{Followed}
-use Rattle.cp_replicate.specs.declared.following.Followed.TheVariants.{Refused, Kept, Conflict, Replaced}
-use Rattle.cp_replicate.specs.declared.replying.AppendReplied.{AppendReplied}
+use Rattle.cp_replicate.specs.declared.following.Followed.TheVariants.{Refused, Conflict, Replaced}
 use Rattle.cp_replicate.specs.declared.replying.AppendReplied.TheVariants.{Adopted, Ignored, Matched, FellBack}
 use Rattle.cp_replicate.specs.declared.sending.Sending.TheVariants.{Chunk, Entries}
 use Rattle.cp_replicate.specs.Logs as logs
-use Rattle.cp_replicate.specs.Decisions.{differs, compared, followed, is_answered, matched, fallen_back, append_replied}
+use Rattle.cp_replicate.specs.Decisions.{differs, compared, followed, is_answered, matched, fallen_back}
 use Rattle.cp_replicate.specs.Laws.{told_to, follows, leads_on, after_append_reply, sent, AppendsGoAsDecided, AppendRepliesGoAsDecided, CommitsGoAsDecided, SendsAsDecided, ExpiresAsDecided, ReadsGoAsDecided}
 use Rattle.cp_replicate.proofs.Batches.{batches_fit}
 

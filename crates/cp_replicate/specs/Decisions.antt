@@ -1,5 +1,5 @@
 -- What is decided of replication, on plain numbers and logs.
-use Rattle.std.specs.Prelude.{ℕ, suc, ◌+◌, ◌-◌, ◌==◌, Bool, not, ◌&&◌, ◌||◌, if◌then◌else◌, List, drop, length, Option, Some, None, is_none, option_map, nat_lt, nat_le, slice_index_or}
+use Rattle.std.specs.Prelude.{ℕ, ◌-◌, ◌==◌, Bool, not, ◌&&◌, ◌||◌, if◌then◌else◌, List, drop, length, Option, Some, None, is_none, option_map, nat_lt, nat_le, slice_index_or}
 use Rattle.cp_parts.specs.declared.log_entry.LogEntry.{LogEntry}
 use Rattle.cp_store_state.specs.Persistent.{PersistentState, last, term_at}
 use Rattle.cp_step.specs.declared.peer.Peer.{Peer}

@@ -1,7 +1,6 @@
 -- What the bytes of an entry come to.
-use Rattle.std.proofs.Common.{◌≡◌, ℕ, Bool, true, false, List, [], Result, refl, ap, sym, subst}
+use Rattle.std.proofs.Common.{◌≡◌, ℕ, Bool, true, false, List, [], Result, ap, sym, subst}
 use Rattle.std.specs.Prelude.{Ok, Err}
-use Rattle.std.specs.List.{AllByRecursion}
 use Rattle.cp_grammar.specs.Grammar.{whole}
 use Rattle.cp_ops.specs.declared.entry.Entry.{Entry}
 use Rattle.cp_ops.specs.Entries.{entry_grammar}

@@ -1,10 +1,10 @@
 -- The length of entries and of what they hold.
-use Rattle.std.proofs.Common.{◌≡◌, ◌≤◌, ◌<◌, ℕ, ◌+◌, ◌-◌, ◌*◌, ◌^◌, Bool, true, List, [], ◌∷◌, ◌++◌, length, refl, sym, ◌∙◌, ap, subst, arith}
+use Rattle.std.proofs.Common.{◌≡◌, ◌≤◌, ℕ, ◌+◌, ◌-◌, ◌*◌, ◌^◌, List, [], ◌∷◌, ◌++◌, length, refl, ◌∙◌, ap, arith}
 use Rattle.std.specs.Prelude.{Some, slice_get}
 use Rattle.std.proofs.lemmas.Bool.{ltb-true}
 use Rattle.std.proofs.lemmas.List.{length-append}
 use Rattle.std.specs.Int.{w32, w64}
-use Rattle.cp_grammar.specs.Grammar.{Grammar, tokens, always, ◌then◌}
+use Rattle.cp_grammar.specs.Grammar.{Grammar, tokens, ◌then◌}
 use Rattle.cp_grammar.specs.Fields.{byte, number, at_least, marked, bytes, signed}
 use Rattle.cp_grammar.specs.Lists.{ItemsFit, listed, each}
 use Rattle.cp_spelling.specs.Common.{index, index_pair, name, group_id, thread_no, member_no, client_id, invocation, member_after, or_zero, last_number, members}

@@ -1,12 +1,12 @@
 -- The length of what is put together from smaller parts.
-use Rattle.std.proofs.Common.{◌≡◌, ◌≤◌, ℕ, zero, suc, ◌+◌, ◌*◌, ◌^◌, Bool, true, false, cond, List, [], ◌∷◌, ◌++◌, length, refl, sym, ◌∙◌, ap, subst, arith}
+use Rattle.std.proofs.Common.{◌≡◌, ◌≤◌, ℕ, ◌+◌, ◌*◌, Bool, true, false, cond, List, [], ◌∷◌, ◌++◌, length, refl, arith}
 use Rattle.std.specs.Prelude.{Option, Some, None, ◌==◌}
 use Rattle.std.specs.Int.{w32, w64}
 use Rattle.std.proofs.lemmas.List.{length-append}
 use Rattle.cp_codec.specs.Fields.{big_endian}
 use Rattle.cp_grammar.specs.Grammar.{Grammar, tokens, always, checked, ◌then◌, keyed, mapped, spelled_of, FitsOf, variant, Chosen, case, no_case}
-use Rattle.cp_grammar.specs.Fields.{byte, number, at_least, marked, bytes, signed, optional}
-use Rattle.cp_grammar.specs.Lists.{items_spelling, ItemsFit, items, listed}
+use Rattle.cp_grammar.specs.Fields.{byte, number, marked, bytes, optional}
+use Rattle.cp_grammar.specs.Lists.{items_spelling, ItemsFit, listed}
 use Rattle.cp_sizes.specs.Sizes.{IsShort}
 
 -- ---- fields

@@ -1,5 +1,5 @@
 -- How long what a format spells may be.
-use Rattle.std.specs.Prelude.{ℕ, ◌≤◌, List, length}
+use Rattle.std.specs.Prelude.{ℕ, ◌≤◌, length}
 use Rattle.cp_grammar.specs.Grammar.{Grammar}
 use Rattle.cp_ops.specs.declared.entry.Entry.{Entry}
 use Rattle.cp_ops.specs.Entries.{entry_within, entry_grammar}

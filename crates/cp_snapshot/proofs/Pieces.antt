@@ -6,15 +6,13 @@ use Rattle.std.proofs.lemmas.List.{length-drop, length-take, length-take-le, tak
 use Rattle.std.proofs.lemmas.List.Elements.{All-head, All-tail}
 use Rattle.std.proofs.lemmas.Option.{same_Some}
 use Rattle.cp_raft_message.specs.declared.snapshot.Chunk.{Chunk}
-use Rattle.cp_step.specs.declared.peer.Peer.{Peer}
 use Rattle.cp_step.specs.Limits.{chunk_bytes, most_snapshot}
-use Rattle.cp_store_state.specs.Persistent.{PersistentState}
-use Rattle.cp_step.specs.Volatile.{Received, VolatileState, peer, with_peer}
+use Rattle.cp_step.specs.Volatile.{Received, peer, with_peer}
 use Rattle.cp_step.specs.Local.{does, reply}
 use Rattle.cp_step.specs.Sending.{chunk, is_last_chunk, chunk_from}
-use Rattle.cp_step.specs.Snapshots.{Progress, Apart, TooLong, More, Whole, received_of, joined, progress, progress_of}
+use Rattle.cp_step.specs.Snapshots.{Progress, Apart, TooLong, More, Whole, received_of, joined, progress_of}
 use Rattle.cp_election.proofs.Rules.{of_if}
-use Rattle.cp_snapshot.specs.Decisions.{joined_to, progress_at, received_with, received_after, goes_on}
+use Rattle.cp_snapshot.specs.Decisions.{joined_to, progress_at, received_with, received_after}
 use Rattle.cp_snapshot.specs.Laws.{piece, after_pieces, ChunksMakeTheSnapshot, IsPiece, after_chunks, WholesAreSnapshots, after_reply, RepliesGoAsDecided}
 
 -- ---- chunks of many snapshots

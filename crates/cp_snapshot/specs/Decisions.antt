@@ -1,5 +1,5 @@
 -- What is decided of chunks.
-use Rattle.std.specs.Prelude.{ℕ, zero, suc, ◌==◌, not, ◌&&◌, Bool, if◌then◌else◌, List, [], ◌++◌, length, Option, Some, None, nat_lt, nat_le}
+use Rattle.std.specs.Prelude.{ℕ, zero, suc, ◌==◌, not, ◌&&◌, Bool, if◌then◌else◌, List, length, Option, Some, None, nat_lt, nat_le}
 use Rattle.cp_raft_message.specs.declared.snapshot.Chunk.{Chunk}
 use Rattle.cp_step.specs.declared.peer.Peer.{Peer}
 use Rattle.cp_step.specs.Limits.{most_snapshot}

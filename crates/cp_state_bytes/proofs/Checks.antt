@@ -1,11 +1,8 @@
 -- What the tests of the rules tell.
-use Rattle.std.proofs.Common.{◌≡◌, ℕ, ◌+◌, ◌-◌, ◌^◌, ◌≤◌, ◌<◌, Bool, true, false, not, ◌&&◌, List, [], ◌∷◌, ◌++◌, length, append_assoc, Option, Some, None, refl, ap, sym, ◌∙◌, subst, cond, arith, unwrap_or, min, is_some}
+use Rattle.std.proofs.Common.{◌≡◌, ℕ, ◌+◌, ◌-◌, ◌^◌, ◌≤◌, ◌<◌, Bool, true, false, ◌&&◌, List, [], ◌∷◌, ◌++◌, length, append_assoc, Option, Some, None, refl, ap, sym, ◌∙◌, subst, cond, arith, unwrap_or, min, is_some}
 use Rattle.std.specs.Prelude.{ℤ, pos, ◌+ℤ◌, bytes_eq}
 use Rattle.std.specs.List.{AllByRecursion, list_all}
-use Rattle.std.specs.declared.cmp.Ordering.{Ordering}
-use Rattle.std.specs.declared.cmp.Ordering.TheVariants.{Less, Equal, Greater}
-use Rattle.std.specs.Ordering.{nat_cmp, int_eq, is_eq}
-use Rattle.std.specs.BTreeMap.{is_at}
+use Rattle.std.specs.Ordering.{nat_cmp, int_eq}
 use Rattle.std.proofs.lemmas.Int.{ints}
 use Rattle.std.proofs.lemmas.List.{append-nil, nil_from_length}
 use Rattle.std.proofs.lemmas.Slice.Eq.{bytes_eq-Decides}
@@ -14,13 +11,13 @@ use Rattle.cp_group_state.specs.declared.rows.SemaphoreRow.{SemaphoreRow}
 use Rattle.cp_group_state.specs.declared.rows.Waiter.{Waiter}
 use Rattle.cp_group_state.specs.Rows.{Object, find, most, put, name_cmp}
 use Rattle.cp_group_state.specs.Semaphores.{Semaphores, is_held}
-use Rattle.cp_group_state.specs.Invariants.{IsRising, OneSession, CallsDiffer, held_by_all, held_of}
-use Rattle.cp_group_state.proofs.Keyed.{no_true, name_key, equal_is, is_at_apart, find-put_same, find-put_other}
+use Rattle.cp_group_state.specs.Invariants.{IsRising, CallsDiffer, held_by_all, held_of}
+use Rattle.cp_group_state.proofs.Keyed.{no_true, name_key, is_at_apart, find-put_same, find-put_other}
 use Rattle.cp_session.specs.Tables.{IsTable, MakesTable}
 use Rattle.cp_state_ranges.specs.Rows.{IsPermits, SemaphoreFits}
 use Rattle.cp_state_rows.specs.Lists.{Holdings}
 use Rattle.cp_state_bytes.specs.Rules.{clients_differ, calls_differ}
-use Rattle.cp_state_bytes.specs.Sums.{AreSums, sum_under, held_in, are_balanced_by}
+use Rattle.cp_state_bytes.specs.Sums.{AreSums, sum_under, are_balanced_by}
 use Rattle.cp_state_bytes.proofs.Consistent.{sessions_are, sessions_pass, calls_are, calls_pass}
 
 -- ---- sessions and waiters

@@ -1,15 +1,13 @@
 -- The rules that bind the lists of a group's state to one another. They are of no single field.
-use Rattle.std.specs.Prelude.{ℕ, Bool, true, not, ◌&&◌, ◌||◌, ◌==◌, ℤ, pos, ◌+ℤ◌, List, [], ◌∷◌, is_some}
+use Rattle.std.specs.Prelude.{ℕ, Bool, true, not, ◌&&◌, ◌||◌, ℤ, pos, ◌+ℤ◌, List, [], ◌∷◌, is_some}
 use Rattle.std.specs.List.{list_all, list_any}
 use Rattle.std.specs.Ordering.{int_eq}
 use Rattle.cp_op_values.specs.declared.kind.Kind.TheVariants as kind
 use Rattle.cp_group_state.specs.declared.rows.SessionRow.{SessionRow}
-use Rattle.cp_group_state.specs.declared.rows.LockRow.{LockRow}
 use Rattle.cp_group_state.specs.declared.rows.SemaphoreRow.{SemaphoreRow}
 use Rattle.cp_group_state.specs.declared.rows.Waiter.{Waiter}
-use Rattle.cp_group_state.specs.Rows.{Named, Object, find, object_cmp}
+use Rattle.cp_group_state.specs.Rows.{Object, find, object_cmp}
 use Rattle.cp_group_state.specs.Waiters.{same_client, stands}
-use Rattle.cp_group_state.specs.Locks.{is_free}
 use Rattle.cp_group_state.specs.Semaphores.{Semaphores}
 use Rattle.cp_group_state.specs.Invariants.{held_of}
 use Rattle.cp_group_state.specs.GroupState.{GroupState}

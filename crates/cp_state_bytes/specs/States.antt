@@ -1,5 +1,5 @@
 -- A group's state as bytes: which bytes spell one, and the state that they restore.
-use Rattle.std.specs.Prelude.{◌≤◌, ◌<◌, ◌^◌, ℕ, ℤ, List, length, Option, Result, Ok, Err}
+use Rattle.std.specs.Prelude.{◌<◌, ◌^◌, ℕ, ℤ, List, length, Option, Result, Ok, Err}
 use Rattle.cp_base.specs.declared.identifier.GroupId.{GroupId}
 use Rattle.cp_grammar.specs.Grammar.{Grammar, mapped, settled, seq, ◌then◌, whole}
 use Rattle.cp_spelling.specs.Common.{group_id}

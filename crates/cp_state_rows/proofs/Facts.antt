@@ -1,5 +1,5 @@
 -- What a row's spelling says of it: each field is within its range, and the key is behind the row before it.
-use Rattle.std.proofs.Common.{◌≡◌, ℕ, ◌+◌, ◌-◌, ◌^◌, ◌≤◌, Bool, true, false, List, [], ◌∷◌, ◌++◌, length, map, Option, Some, None, refl, ap, sym, ◌∙◌, subst, arith}
+use Rattle.std.proofs.Common.{◌≡◌, ℕ, ◌+◌, ◌-◌, ◌^◌, ◌≤◌, Bool, true, false, List, [], ◌∷◌, ◌++◌, length, Option, Some, None, refl, arith}
 use Rattle.std.specs.Prelude.{ℤ, pos, neg_ℤ, ◌≤ℤ◌, ◌&&◌, int_le}
 use Rattle.std.proofs.lemmas.Int.{ints}
 use Rattle.std.specs.List.{sum_by}
@@ -9,11 +9,11 @@ use Rattle.std.specs.declared.cmp.Ordering.{Ordering}
 use Rattle.std.specs.declared.cmp.Ordering.TheVariants.{Less, Equal, Greater}
 use Rattle.std.specs.Ordering.{nat_cmp, is_lt, is_le, ordering_then}
 use Rattle.cp_base.specs.declared.identifier.Invocation.{Invocation}
-use Rattle.cp_grammar.specs.Fields.{byte, number, optional}
+use Rattle.cp_grammar.specs.Fields.{number, optional}
 use Rattle.cp_grammar.specs.Lists.{ItemsFit, each}
-use Rattle.cp_spelling.specs.Common.{index, name, invocation}
+use Rattle.cp_spelling.specs.Common.{name, invocation}
 use Rattle.cp_op_values.specs.declared.kind.Kind.{Kind}
-use Rattle.cp_op_values.specs.Values.{reference, kind_grammar}
+use Rattle.cp_op_values.specs.Values.{reference}
 use Rattle.cp_answers.specs.declared.answer.Answer.{Answer}
 use Rattle.cp_answers.specs.declared.answer.Answer.TheVariants as answer
 use Rattle.cp_answers.specs.Answers.{answer_within, answer_grammar}
@@ -26,12 +26,12 @@ use Rattle.cp_group_state.specs.declared.rows.SemaphoreRow.{SemaphoreRow}
 use Rattle.cp_group_state.specs.declared.rows.LatchRow.{LatchRow}
 use Rattle.cp_group_state.specs.declared.rows.Waiter.{Waiter}
 use Rattle.cp_group_state.specs.declared.rows.MemoryRow.{MemoryRow}
-use Rattle.cp_state_ranges.specs.Rows.{SessionFits, LockFits, SemaphoreFits, HoldingFits, LatchFits, LongFits, RefFits, PairFits, GoneFits, WaiterFits, MemoryFits, IsPermits, is_semaphore, can_wait}
+use Rattle.cp_state_ranges.specs.Rows.{SessionFits, LockFits, SemaphoreFits, HoldingFits, LatchFits, LongFits, RefFits, PairFits, GoneFits, WaiterFits, MemoryFits, IsPermits, is_semaphore}
 use Rattle.cp_state_ranges.proofs.Fitting.{kind_fits, signed_permits}
 use Rattle.cp_state_rows.specs.declared.version.Version.{Version}
 use Rattle.cp_state_rows.specs.declared.version.Version.TheVariants as versions
 use Rattle.cp_state_rows.specs.Versions.{most_reference, has_kind}
-use Rattle.cp_state_rows.specs.Keys.{last_of, follows, is_behind, reaches, may_follow, held_cmp}
+use Rattle.cp_state_rows.specs.Keys.{last_of, follows, is_behind, reaches, held_cmp}
 use Rattle.cp_state_rows.specs.Rows as rows
 use Rattle.cp_state_rows.specs.Rows.{name_behind, object_behind, session_row, lock_row, is_permits, semaphore_row, held_row, counted_list, latch_row, long_row, ref_row, gone_row, waiter_row, holder_behind, memory_row, place_behind, pair_row}
 

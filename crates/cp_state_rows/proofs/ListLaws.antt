@@ -1,5 +1,4 @@
 -- The grammars of lists are lawful.
-use Rattle.std.specs.Prelude.{ℕ, List}
 use Rattle.cp_codec.specs.Exact.{IsByte}
 use Rattle.cp_grammar.specs.Lawful.{IsLawful}
 use Rattle.cp_grammar.proofs.Laws.{mapped_lawful}

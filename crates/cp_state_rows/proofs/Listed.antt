@@ -1,5 +1,5 @@
 -- What the spelling of a list says of it, and which lists have one.
-use Rattle.std.proofs.Common.{◌≡◌, ℕ, ◌-◌, ◌^◌, ◌≤◌, List, [], ◌∷◌, ◌++◌, length, Option, refl, ap, sym, ◌∙◌, subst, arith}
+use Rattle.std.proofs.Common.{ℕ, ◌-◌, ◌^◌, ◌≤◌, List, [], ◌∷◌, ◌++◌, length, Option, refl, sym, subst, arith}
 use Rattle.std.specs.Prelude.{ℤ}
 use Rattle.std.specs.List.{AllByRecursion}
 use Rattle.std.specs.declared.cmp.Ordering.{Ordering}
@@ -7,8 +7,7 @@ use Rattle.std.specs.Ordering.{nat_cmp}
 use Rattle.std.specs.Cmp.{IsTotalOrder}
 use Rattle.std.proofs.lemmas.Cmp.{nat_cmp_total, nat_list_cmp_total, on_total, then_total}
 use Rattle.std.specs.List.Sorted.{IsStrictlySortedBy}
-use Rattle.cp_grammar.specs.Grammar.{Grammar}
-use Rattle.cp_grammar.specs.Lists.{ItemsFit, listed, each}
+use Rattle.cp_grammar.specs.Lists.{ItemsFit, each}
 use Rattle.cp_group_state.specs.Rows.{Named, Object, most, name_cmp, object_cmp, holding_cmp, holder_cmp, pair_cmp}
 use Rattle.cp_group_state.specs.Latches.{counted_calls, most_counted}
 use Rattle.cp_group_state.specs.Invariants.{IsRising}

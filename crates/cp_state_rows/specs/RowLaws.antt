@@ -12,7 +12,7 @@ use Rattle.cp_grammar.proofs.ListLaws.{listed_lawful, each_lawful}
 use Rattle.cp_spelling.specs.Common.{index, invocation}
 use Rattle.cp_op_values.specs.Values.{reference}
 use Rattle.cp_answers.specs.Answers.{answer_within}
-use Rattle.cp_grammar.proofs.Laws.{mapped_lawful, seq_lawful, then_lawful, checked_lawful, always_lawful}
+use Rattle.cp_grammar.proofs.Laws.{mapped_lawful, then_lawful}
 use Rattle.cp_grammar.proofs.FieldLaws.{lawful, u32_lawful, optional_lawful}
 use Rattle.cp_spelling.specs.CommonLaws.{index_lawful, name_lawful, thread_lawful, client_lawful, invocation_lawful}
 use Rattle.cp_op_values.specs.declared.kind.Kind.{Kind}

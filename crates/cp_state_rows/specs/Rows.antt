@@ -2,19 +2,15 @@
 use Rattle.std.specs.Prelude.{ℕ, ◌-◌, ◌^◌, ℤ, pos, neg_ℤ, Bool, ◌&&◌, List, Option, int_le}
 use Rattle.std.specs.Int.{w32}
 use Rattle.std.specs.Ordering.{nat_cmp}
-use Rattle.cp_base.specs.declared.identifier.ClientId.{ClientId}
-use Rattle.cp_base.specs.declared.identifier.ThreadNo.{ThreadNo}
 use Rattle.cp_base.specs.declared.identifier.Invocation.{Invocation}
 use Rattle.cp_grammar.specs.Grammar.{Grammar, always, checked, mapped, seq, ◌then◌}
 use Rattle.cp_grammar.specs.Fields.{byte, number, at_least, signed, optional}
 use Rattle.cp_grammar.specs.Lists.{listed, each}
 use Rattle.cp_spelling.specs.Common.{index, name, thread_no, client_id, invocation}
 use Rattle.cp_op_values.specs.declared.kind.Kind.{Kind}
-use Rattle.cp_op_values.specs.declared.wish.Wish.{Wish}
 use Rattle.cp_op_values.specs.Numbers.{any_u32, permits}
 use Rattle.cp_op_values.specs.Values.{reference, key, value, kind_grammar}
 use Rattle.cp_op_values.specs.Wishes.{wish_grammar}
-use Rattle.cp_answers.specs.declared.answer.Answer.{Answer}
 use Rattle.cp_answers.specs.Answers.{answer_within}
 use Rattle.cp_group_state.specs.Rows.{Object, name_cmp, object_cmp, holder_cmp, pair_cmp}
 use Rattle.cp_group_state.specs.Latches.{counted_calls, most_counted}

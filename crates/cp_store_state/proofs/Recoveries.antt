@@ -8,7 +8,7 @@ use Rattle.cp_parts.specs.declared.part.Part.TheVariants as part
 use Rattle.cp_parts.specs.Parts.{part_grammar}
 use Rattle.cp_store_state.specs.Durable.{DurableState, with_part}
 use Rattle.cp_store_state.specs.Legal.{is_legal}
-use Rattle.cp_store_state.specs.Recovery.{after_part, after_read, after_body, or_bad, recovered_from}
+use Rattle.cp_store_state.specs.Recovery.{after_read, after_body, or_bad, recovered_from}
 
 -- what follows where the first body is good
 follows : (place : ℕ) (o : Option DurableState) (now after : DurableState → Result DurableState ℕ) (t u : DurableState) → ((s : DurableState) → now s ≡ Ok t → after s ≡ Ok u) → or_bad place o now ≡ Ok t → or_bad place o after ≡ Ok u

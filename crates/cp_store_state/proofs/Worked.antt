@@ -1,6 +1,6 @@
 -- Worked lists of parts, by computation.
 use Rattle.std.proofs.Common.{◌≡◌, ℕ, List, [], ◌∷◌, refl}
-use Rattle.std.specs.Prelude.{true, false, Option, Some, None, Ok, Err}
+use Rattle.std.specs.Prelude.{false, Option, Some, None}
 use Rattle.std.specs.Option.{option_map}
 use Rattle.cp_base.specs.declared.identifier.GroupId.{GroupId}
 use Rattle.cp_grammar.specs.Fields.{number_reading}
@@ -11,7 +11,6 @@ use Rattle.cp_parts.specs.Heads.{head_grammar, head_of}
 use Rattle.cp_parts.specs.declared.log_entry.LogEntry.{LogEntry}
 use Rattle.cp_parts.specs.declared.part.Part.{Part}
 use Rattle.cp_parts.specs.declared.part.Part.TheVariants as part
-use Rattle.cp_store_state.specs.Persistent.{PersistentState}
 use Rattle.cp_store_state.specs.Durable.{DurableState, first_state, group_in}
 use Rattle.cp_store_state.specs.Recovery.{recovered}
 

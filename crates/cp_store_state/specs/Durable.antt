@@ -5,7 +5,6 @@ use Rattle.std.specs.BTreeMap.{is_at, insert_entry}
 use Rattle.std.specs.BTreeSet.{insert_key}
 use Rattle.std.specs.List.{list_any}
 use Rattle.std.specs.Map.{lookup, set_value, remove_entry}
-use Rattle.cp_base.specs.declared.identifier.GroupId.{GroupId}
 use Rattle.cp_parts.specs.declared.part.Part.{Part}
 use Rattle.cp_parts.specs.declared.part.Part.TheVariants as part
 use Rattle.cp_store_state.specs.Persistent.{PersistentState, new_group, with_ballot, with_entries, with_snapshot}

@@ -1,7 +1,6 @@
 -- Which part may follow.
-use Rattle.std.specs.Prelude.{ℕ, ◌+◌, ◌*◌, ◌^◌, Bool, true, false, not, List, length, Option, Some, None, is_some, nat_le, nat_lt, ◌==◌, ◌&&◌}
+use Rattle.std.specs.Prelude.{ℕ, ◌+◌, ◌*◌, ◌^◌, Bool, false, not, List, length, Option, Some, None, is_some, nat_le, nat_lt, ◌==◌, ◌&&◌}
 use Rattle.std.specs.List.{list_all}
-use Rattle.cp_base.specs.declared.identifier.GroupId.{GroupId}
 use Rattle.cp_parts.specs.declared.log_entry.LogEntry.{LogEntry}
 use Rattle.cp_parts.specs.declared.part.Part.{Part}
 use Rattle.cp_parts.specs.declared.part.Part.TheVariants as part

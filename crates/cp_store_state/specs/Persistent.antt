@@ -1,5 +1,5 @@
 -- What a member keeps of one group across crashes, and what each kind of part makes of it.
-use Rattle.std.specs.Prelude.{ℕ, ◌+◌, ◌-◌, Bool, false, List, [], ◌∷◌, ◌++◌, length, take, drop, Option, Some, None, slice_get, nat_lt, ◌==◌, if◌then◌else◌}
+use Rattle.std.specs.Prelude.{ℕ, ◌+◌, ◌-◌, Bool, false, List, [], ◌++◌, length, take, drop, Option, Some, None, slice_get, nat_lt, ◌==◌, if◌then◌else◌}
 use Rattle.std.specs.Option.{option_map}
 use Rattle.cp_parts.specs.declared.config.Config.{Config}
 use Rattle.cp_parts.specs.declared.log_entry.LogEntry.{LogEntry}

@@ -1,9 +1,9 @@
-use Rattle.std.proofs.Common.{◌≡◌, List, refl, sym, ◌∙◌, ap}
+use Rattle.std.proofs.Common.{sym, ◌∙◌, ap}
 use Rattle.std.specs.Ordering.{nat_cmp}
 use Rattle.std.specs.BTreeMap.{insert_entry, is_at}
 use Rattle.std.specs.Map.{keys_of, remove_entry}
 use Rattle.std.specs.Set.{remove_key}
-use Rattle.cp_store_state.specs.Persistent.{PersistentState, new_group}
+use Rattle.cp_store_state.specs.Persistent.{new_group}
 use Rattle.cp_log.specs.Rows.{rows_of}
 use Rattle.cp_log.proofs.RowMaps.{entry_back, insert_rows, keys_rows, remove_keys}
 use Rattle.cp_log.proofs.rows.insert_row.Goals as goal

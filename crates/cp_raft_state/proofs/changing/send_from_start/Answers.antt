@@ -1,4 +1,4 @@
-use Rattle.std.proofs.Common.{◌≡◌, ◌∙◌, ap, slice_set}
+use Rattle.std.proofs.Common.{◌∙◌, ap, slice_set}
 use Rattle.cp_step.specs.declared.peer.Peer.{Peer}
 use Rattle.cp_step.specs.Snapshots.{from_start}
 use Rattle.cp_raft_state.proofs.Places.{one_more}

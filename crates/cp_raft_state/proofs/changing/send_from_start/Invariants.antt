@@ -1,4 +1,4 @@
-use Rattle.std.proofs.Common.{◌≡◌, ◌++◌, map, take, drop, length}
+use Rattle.std.proofs.Common.{◌≡◌, ◌++◌, map, take, drop}
 use Rattle.cp_step.specs.Snapshots.{from_start}
 use Rattle.cp_raft_state.proofs.changing.send_from_start.Given as goal
 

@@ -1,6 +1,5 @@
-use Rattle.std.proofs.Common.{◌≡◌, ◌≤◌, ◌+◌, ◌-◌, true, ℕ, [], length, drop, refl, sym, ◌∙◌, ap, arith}
+use Rattle.std.proofs.Common.{◌≡◌, ◌≤◌, ◌+◌, ◌-◌, true, ℕ, [], length, drop, sym, ◌∙◌, ap, arith}
 use Rattle.std.specs.Prelude.{if◌then◌else◌}
-use Rattle.cp_parts.specs.declared.config.Config.{Config}
 use Rattle.cp_store_state.specs.Configurations.{configs_in}
 use Rattle.cp_store_state.proofs.InForce.{count_within, suffix_configs}
 use Rattle.cp_log.proofs.RowLemmas.{count_bound, suffix_short, term_within}

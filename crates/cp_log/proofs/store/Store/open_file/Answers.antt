@@ -1,13 +1,10 @@
-use Rattle.std.proofs.Common.{◌≡◌, ◌≤◌, ◌<◌, ◌+◌, ◌-◌, ◌^◌, ℕ, List, refl, sym, ◌∙◌, ap, subst, arith, rules}
+use Rattle.std.proofs.Common.{◌≡◌, ◌≤◌, ◌<◌, ◌+◌, ◌-◌, ◌^◌, refl, sym, ◌∙◌, ap, subst, arith, rules}
 use Rattle.std.specs.Prelude.{Ok}
-use Rattle.cp_disk.specs.Images.{Only}
 use Rattle.cp_journal.specs.Found.{lists}
 use Rattle.cp_journal.specs.Journals as journals
 use Rattle.cp_journal.specs.Records.{records_of}
 use Rattle.cp_store_state.specs.Durable.{DurableState, first_state}
-use Rattle.cp_store_state.specs.Recovery.{state_of_bodies}
-use Rattle.cp_log.specs.declared.error.StoreError.{StoreError}
-use Rattle.cp_log.specs.Causes.{OpenCause, WriteCause}
+use Rattle.cp_log.specs.Causes.{OpenCause}
 use Rattle.cp_log.specs.Durables.{durable_of}
 use Rattle.cp_log.specs.Files.{file_state, sizes}
 use Rattle.cp_log.proofs.Opened.{begin_cause, body_cause, if_err, if_ok, opened_size, recovered_file}

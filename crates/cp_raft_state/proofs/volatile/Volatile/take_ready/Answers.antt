@@ -1,4 +1,4 @@
-use Rattle.std.proofs.Common.{◌≡◌, ◌∙◌, ap, sym, true≢false, List}
+use Rattle.std.proofs.Common.{◌∙◌, ap, sym, true≢false, List}
 use Rattle.std.specs.Prelude.{filter}
 use Rattle.cp_snapshot.specs.Assemblers as assemblers
 use Rattle.cp_step.specs.Confirming as confirming

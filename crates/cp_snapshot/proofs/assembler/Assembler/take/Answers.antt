@@ -1,5 +1,4 @@
-use Rattle.std.proofs.Common.{◌≡◌, ◌++◌, Ok, IfOk, arith, subst}
-use Rattle.cp_snapshot.specs.declared.assembler.Progress.TheVariants as progress
+use Rattle.std.proofs.Common.{◌≡◌, ◌++◌, IfOk, arith, subst}
 use Rattle.cp_snapshot.specs.Assemblers.{received, held}
 use Rattle.cp_snapshot.specs.Decisions.{told, joined_to}
 use Rattle.cp_snapshot.proofs.Joins.{whole_on}
