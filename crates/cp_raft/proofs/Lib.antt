@@ -9,3 +9,4 @@ pub mod Others
 pub mod Downs
 pub mod Voting
 pub mod Ballots
+pub mod Said

@@ -199,7 +199,7 @@ rests_between seat p v between o event did first middle some is voting none read
 
 -- ---- which event it is
 
-one_value : {A : Type 0} (o : Option A) (x y : A) → o ≡ Some x → o ≡ Some y → x ≡ y
+pub one_value : {A : Type 0} (o : Option A) (x y : A) → o ≡ Some x → o ≡ Some y → x ≡ y
 one_value o x y is_x is_y = let e : Some x ≡ Some y = sym is_x ∙ is_y in cc
 
 -- a message on a vote is no other
@@ -209,9 +209,6 @@ not_on_vote o x body is_x other is voting = true≢false (sym voting ∙ ap is_o
 -- an event on a vote is no other
 pub not_voting : (o : Option Event) (x event : Event) → o ≡ Some x → is_voting x ≡ false → o ≡ Some event → is_voting event ≡ true → ⊥
 not_voting o x event is_x other is voting = true≢false (sym voting ∙ ap is_voting (one_value o event x is is_x) ∙ other)
-
-pub same_body : (o : Option Body) (x body : Body) → o ≡ Some x → o ≡ Some body → body ≡ x
-same_body o x body is_x is = one_value o body x is is_x
 
 -- the message of an event
 pub body_of : (from : ℕ) (o : Option Body) (event : Event) → option_map (Got from) o ≡ Some event → (body : Body) × (o ≡ Some body) × (event ≡ Got from body)

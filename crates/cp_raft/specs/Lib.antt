@@ -11,3 +11,4 @@ pub mod Writing
 pub mod Completing
 pub mod Ticking
 pub mod Frugal
+pub mod Coming

@@ -1,6 +1,7 @@
 //! One member of one Raft group: each step does what its definition in `cp_step` says, over the member's store.
 #![tactic(auto)]
 
+mod coming;
 mod deciding;
 mod electing;
 mod event;
@@ -12,6 +13,7 @@ mod snapshots;
 mod stored;
 mod ticking;
 
+pub use coming::what_has_a_spelling_is_in_range;
 pub use event::RaftEvent;
 pub use out::RaftOut;
 pub use raft::Raft;

@@ -4,7 +4,7 @@ use Rattle.cp_step.specs.Local as local
 use Rattle.cp_step.specs.Steps as steps
 use Rattle.cp_raft_state.specs.Said.{body_in, entry_in}
 use Rattle.cp_raft.specs.Offices.{takes_office}
-use Rattle.cp_raft.proofs.Voting.{not_on_vote, same_body}
+use Rattle.cp_raft.proofs.Voting.{not_on_vote, one_value}
 use Rattle.cp_raft.proofs.messages.on_message.Goals as goal
 
 pub on_prevote_reply-requires : goal.on_prevote_reply-requires
@@ -56,7 +56,7 @@ pub returns-in-VoteReply-clause-frugal : goal.returns-in-VoteReply-clause-frugal
 returns-in-VoteReply-clause-frugal g c = λ body is voting none room.
     let x = c.in-VoteReply.reply in
     let said : c.args.message.now.body ≡ bodies.VoteReply c.in-VoteReply.reply = cc in
-    let same = same_body (body_in c.args.message.now.body) (local.VoteReply x.term x.granted) body (ap body_in said) is in
+    let same = one_value (body_in c.args.message.now.body) body (local.VoteReply x.term x.granted) is (ap body_in said) in
     c.on_vote_reply.ensures.frugal (subst (λ (b : local.Body). takes_office c.args.state.now (steps.on_message c.args.seat.me (g.G.Log.stored c.args.stored.now) c.args.state.now c.args.message.now.from b) ≡ false) same none)
 
 pub returns-in-Append-clause-frugal : goal.returns-in-Append-clause-frugal
