@@ -1,5 +1,5 @@
 -- The texts of calls.
-use Rattle.std.proofs.Common.{◌≡◌, ℕ, true, false, List, [], ◌∷◌, ◌++◌, refl, sym, ap, ◌∙◌, append_assoc}
+use Rattle.std.proofs.Common.{◌≡◌, ℕ, false, List, [], ◌∷◌, ◌++◌, refl, sym, ap, ◌∙◌, append_assoc}
 use Rattle.std.specs.Prelude.{Option, Some, None, codes}
 use Rattle.cp_op_values.specs.Values.{kind_text}
 use Rattle.cp_op_values.specs.declared.kind.Kind.{Kind}
@@ -13,7 +13,7 @@ use Rattle.cp_events.specs.declared.user_op.UserOp.TheVariants as user
 use Rattle.cp_call_words.specs.declared.context.Context.{Context}
 use Rattle.cp_call_words.specs.Objects.{object_text, object_with, object_word}
 use Rattle.cp_call_words.specs.ObjectCalls.{call_spelling, map_word, map_calls, on_object}
-use Rattle.cp_call_words.specs.Calls.{user_calls, other_calls, user_op, call_text}
+use Rattle.cp_call_words.specs.Calls.{user_calls, user_op, call_text}
 use Rattle.cp_call_words.specs.CallLaws.{call_text_is}
 use Rattle.cp_call_words.specs.Shown.{named, with_group, with_groups}
 

@@ -1,5 +1,5 @@
 -- The object of a word that is taken apart at its first @.
-use Rattle.std.proofs.Common.{◌≡◌, ℕ, Bool, true, false, ◌&&◌, not, cond, ◌==◌, List, [], ◌∷◌, ◌++◌, refl, ap, sym, subst, ◌∙◌}
+use Rattle.std.proofs.Common.{◌≡◌, ℕ, Bool, true, false, ◌&&◌, not, ◌==◌, List, [], ◌∷◌, ◌++◌, refl, ap, sym, subst, ◌∙◌}
 use Rattle.std.specs.Prelude.{Option, Some, None}
 use Rattle.std.specs.List.{list_all}
 use Rattle.std.proofs.lemmas.Bool.{eqb-true}
@@ -8,7 +8,7 @@ use Rattle.cp_base.proofs.NameLemmas as names
 use Rattle.cp_spelling.specs.Common.{is_none}
 use Rattle.cp_value_words.specs.Values.{is_name}
 use Rattle.cp_words.specs.Text.{Lacks}
-use Rattle.cp_call_words.specs.Objects.{before_at, from_at, object_with, object_parted, object_of, is_object}
+use Rattle.cp_call_words.specs.Objects.{before_at, from_at, object_with, object_of, is_object}
 
 and_true : (a b : Bool) → (a && b) ≡ true → (a ≡ true) × (b ≡ true)
 and_true true b e = (refl, e)

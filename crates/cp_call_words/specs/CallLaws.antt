@@ -1,6 +1,6 @@
 -- A call is lawful in every context, and has one text in all of them.
-use Rattle.std.proofs.Common.{◌≡◌, ℕ, Bool, true, false, cond, List, ◌++◌, Ok, Err, length, refl}
-use Rattle.std.specs.Prelude.{Option, Some, None, codes}
+use Rattle.std.proofs.Common.{◌≡◌, ℕ, Bool, true, false, List, ◌++◌, Ok, refl}
+use Rattle.std.specs.Prelude.{Option, Some, None}
 use Rattle.std.specs.List.{AllByRecursion}
 use Rattle.cp_codec.specs.Exact.{IsByte}
 use Rattle.cp_grammar.specs.Grammar.{Grammar, variant}
@@ -20,7 +20,7 @@ use Rattle.cp_value_words.specs.ValueLaws.{name_word_lawful, group_word_lawful, 
 use Rattle.cp_call_words.specs.Objects.{object_word}
 use Rattle.cp_call_words.specs.ObjectCalls.{long_word, long_calls, ref_word, ref_calls, lock_word, lock_calls, sem_word, sem_calls, latch_word, latch_calls, map_word, map_calls, on_object}
 use Rattle.cp_call_words.specs.ObjectCallLaws.{long_cases, ref_cases, lock_cases, sem_cases, latch_cases, map_cases, on_object_lawful}
-use Rattle.cp_call_words.specs.Calls.{only_if, closing, on_group, on_member, on_change, user_word, made, call_of, user_long, user_ref, user_lock, user_sem, user_jsem, user_latch, user_map, may_change, other_calls, user_calls, user_op, call_text}
+use Rattle.cp_call_words.specs.Calls.{only_if, closing, on_group, on_member, on_change, user_word, made, call_of, user_long, user_ref, user_lock, user_sem, user_jsem, user_latch, user_map, other_calls, user_calls, user_op, call_text}
 
 only_again : {A : Type 0} (holds : Bool) (g : Grammar ℕ A) → IsLawful IsByte g → (x : A) (rest : List ℕ) → (holds ≡ true) × g.Fits x → (only_if holds g).reading (g.spelling x ++ rest) ≡ Ok (x, rest)
 only_again holds g law x rest fits = rw fits.0 (law.again x rest fits.1)

@@ -1,15 +1,13 @@
 -- What one entry may do to those who wait, to sessions, to the memory and to the names that are gone.
-use Rattle.std.proofs.Common.{is_some, ◌≡◌, ℕ, ◌<◌, ◌≤◌, ◌⊎◌, inl, inr, Bool, true, false, not, ◌&&◌, ◌||◌, List, [], ◌∷◌, ◌++◌, map, Some, None, Option, refl, sym, subst, ap, ◌∙◌, arith, le_refl, if◌then◌else◌}
-use Rattle.std.specs.Prelude.{All, Contains, int_lt, pos, ◌==◌, nat_lt, bytes_eq, length}
+use Rattle.std.proofs.Common.{is_some, ◌≡◌, ℕ, ◌<◌, ◌≤◌, ◌⊎◌, inl, inr, Bool, true, false, not, ◌&&◌, ◌||◌, List, [], ◌∷◌, ◌++◌, map, Some, None, Option, refl, sym, subst, ap, ◌∙◌, arith, le_refl}
+use Rattle.std.specs.Prelude.{All, Contains, ◌==◌, nat_lt, bytes_eq}
 use Rattle.std.specs.Ordering.{nat_cmp}
 use Rattle.std.specs.BTreeMap.{is_at}
-use Rattle.std.specs.List.{filter, list_any}
-use Rattle.std.specs.Map.{keys_of}
+use Rattle.std.specs.List.{filter}
 use Rattle.std.proofs.lemmas.Bool.Decides.{nat_tests}
 use Rattle.std.proofs.lemmas.Slice.Eq.{bytes_eq-Decides}
-use Rattle.std.proofs.lemmas.List.Elements.{All-nil, All-cons, All-append, All-map, All-weaker, All-contains_itself, All-contains, All-filter, All-head, All-tail}
+use Rattle.std.proofs.lemmas.List.Elements.{All-nil, All-cons, All-append, All-map, All-weaker, All-contains_itself, All-filter, All-head}
 use Rattle.cp_base.specs.declared.identifier.ClientId.{ClientId}
-use Rattle.cp_base.specs.declared.identifier.GroupId.{GroupId}
 use Rattle.cp_base.specs.declared.identifier.Invocation.{Invocation}
 use Rattle.cp_answers.specs.declared.answer.Answer.{Answer}
 use Rattle.cp_answers.specs.declared.answer.Answer.TheVariants as answer
@@ -33,7 +31,7 @@ use Rattle.cp_group_state.specs.Rows.{Object, find, put, has_room, most, holder_
 use Rattle.cp_group_state.specs.declared.rows.Waiter.{Waiter}
 use Rattle.cp_group_state.specs.Waiters.{Ended, answered_by, ending, first, waits_on, same_call, same_client}
 use Rattle.cp_group_state.specs.declared.rows.MemoryRow.{MemoryRow}
-use Rattle.cp_group_state.specs.Memory.{remember, note, note_at, note_all, has_memory}
+use Rattle.cp_group_state.specs.Memory.{note, note_at, note_all, has_memory}
 use Rattle.cp_group_state.specs.declared.rows.SessionRow.{SessionRow}
 use Rattle.cp_group_state.specs.Sessions.{beaten, session_of, is_of, is_open_for, is_among, is_at_version, unchanged_since}
 use Rattle.cp_group_state.specs.Locks.{Taken, Fence, Limit, Full, Busy, Released, Freed, Kept, NotOwner, acquired, held_among, released_by}
@@ -60,7 +58,7 @@ use Rattle.cp_group_state.proofs.Walk.{cases, either, All-served}
 use Rattle.cp_group_state.proofs.Grows.{same_some, is_of-same}
 use Rattle.cp_group_state.proofs.Once.{same-call}
 use Rattle.cp_group_state.proofs.Established.{fewer_closed}
-use Rattle.cp_causes.proofs.Lists.{no-element, at-head, at-tail}
+use Rattle.cp_causes.proofs.Lists.{at-head, at-tail}
 
 -- the entry closes this session
 abbrev pub Closes : Entry → ℕ → Type 0

@@ -1,7 +1,6 @@
 -- What one entry leaves of sessions, of the memory, of the names that are gone, and of the group.
-use Rattle.std.proofs.Common.{◌≡◌, ℕ, ◌<◌, ◌≤◌, ◌⊎◌, inl, inr, Bool, true, false, List, Some, None, Option, refl, sym, subst, ap, ◌∙◌, if◌then◌else◌}
-use Rattle.std.specs.Prelude.{◌==◌, nat_lt, length, Contains}
-use Rattle.std.specs.Ordering.{nat_cmp}
+use Rattle.std.proofs.Common.{◌≡◌, ℕ, ◌<◌, ◌⊎◌, inl, inr, Bool, true, false, Some, None, Option, refl, sym, subst, ap, ◌∙◌, if◌then◌else◌}
+use Rattle.std.specs.Prelude.{◌==◌, nat_lt, length}
 use Rattle.std.specs.BTreeMap.{is_at}
 use Rattle.cp_base.specs.declared.identifier.ClientId.{ClientId}
 use Rattle.cp_base.specs.declared.identifier.GroupId.{GroupId}
@@ -16,13 +15,13 @@ use Rattle.cp_group_state.specs.declared.rows.Waiter.{Waiter}
 use Rattle.cp_group_state.specs.Waiters.{stands}
 use Rattle.cp_group_state.specs.declared.rows.MemoryRow.{MemoryRow}
 use Rattle.cp_group_state.specs.Memory.{remember}
-use Rattle.cp_group_state.specs.Sessions.{is_open_for, unchanged_since}
+use Rattle.cp_group_state.specs.Sessions.{is_open_for}
 use Rattle.cp_group_state.specs.GroupState.{GroupState}
 use Rattle.cp_group_state.specs.Changes.{Change}
 use Rattle.cp_group_state.specs.Outcomes.{Reply, Answered, Waits}
 use Rattle.cp_group_state.specs.Destroying.{is_gone}
 use Rattle.cp_group_state.specs.Protected.{session_in}
-use Rattle.cp_group_state.specs.Apply.{Applied, apply, apply_call, by_memory, by_session, destroy_group, is_elsewhere, join, outcome, perform, remembered, settle, settle_wait, supersede}
+use Rattle.cp_group_state.specs.Apply.{Applied, apply, apply_call, by_memory, by_session, is_elsewhere, join, outcome, perform, remembered, settle, supersede}
 use Rattle.cp_group_state.proofs.Keyed.{equal_is, find-put_same, find-put_other, holder_key}
 use Rattle.cp_group_state.proofs.Walk.{cases, either}
 use Rattle.cp_group_state.proofs.Grows.{same_some}

@@ -1,9 +1,9 @@
 -- Each answer of a history has its cause: an induction over the entries.
-use Rattle.std.proofs.Common.{◌≡◌, ℕ, ◌+◌, ◌-◌, ◌^◌, ◌<◌, ◌≤◌, ◌⊎◌, inl, inr, Bool, true, false, List, [], ◌∷◌, ◌++◌, map, Some, None, Option, refl, sym, subst, ap, ◌∙◌, arith, length, zero, suc, le_refl, le_trans, if◌then◌else◌}
-use Rattle.std.specs.Prelude.{◌==◌, nat_lt, All, Contains, slice_get}
+use Rattle.std.proofs.Common.{◌≡◌, ℕ, ◌+◌, ◌-◌, ◌^◌, ◌<◌, ◌≤◌, ◌⊎◌, inl, inr, Bool, true, false, List, [], ◌∷◌, ◌++◌, Some, None, Option, refl, sym, subst, ap, ◌∙◌, arith, length, zero, suc, le_trans, if◌then◌else◌}
+use Rattle.std.specs.Prelude.{◌==◌, nat_lt, Contains, slice_get}
 use Rattle.std.specs.Ordering.{nat_cmp}
 use Rattle.std.proofs.lemmas.Bool.Decides.{nat_tests}
-use Rattle.std.proofs.lemmas.List.Elements.{All-contains, All-nil, Contains-append_cases, Contains-append_left, Contains-append_right}
+use Rattle.std.proofs.lemmas.List.Elements.{All-contains, All-nil, Contains-append_cases, Contains-append_right}
 use Rattle.cp_base.specs.declared.identifier.ClientId.{ClientId}
 use Rattle.cp_base.specs.declared.identifier.GroupId.{GroupId}
 use Rattle.cp_base.specs.declared.identifier.Invocation.{Invocation}
@@ -32,13 +32,13 @@ use Rattle.cp_group_state.specs.Apply.{Applied, apply, apply_call, by_memory, by
 use Rattle.cp_group_state.specs.History.{History, IsBelow, IsOrderly, IsOrderlyAt, IsOrderlyFrom}
 use Rattle.cp_group_state.proofs.Walk.{cases, either}
 use Rattle.cp_group_state.proofs.Grows.{Grows, is_of-same, same_some}
-use Rattle.cp_group_state.proofs.Steps.{RoundsWithin, grows-apply, grows-supersede, within-apply, within-supersede}
-use Rattle.cp_group_state.proofs.Told.{Told, tells_closed, told-apply, told_more}
+use Rattle.cp_group_state.proofs.Steps.{RoundsWithin, grows-apply, grows-supersede, within-apply}
+use Rattle.cp_group_state.proofs.Told.{Told, tells_closed, told-apply}
 use Rattle.cp_group_state.proofs.Walk.{walk_supersede}
 use Rattle.cp_group_state.proofs.Asked.{AllAsked, asked-apply, asked-supersede}
 use Rattle.cp_group_state.proofs.Keyed.{same-client}
 use Rattle.cp_causes.specs.Moments.{StandsBy, WasOpenFor, SessionsAreOwn, session_used, state_after, state_before}
-use Rattle.cp_causes.specs.Causes.{HasCause, IsClosed, IsExpired, IsRuled, wish_in}
+use Rattle.cp_causes.specs.Causes.{HasCause, IsClosed, IsExpired, IsRuled}
 use Rattle.cp_causes.specs.Laws.{AllHaveCauses}
 use Rattle.cp_causes.proofs.Lists.{no-element, one-is, one-only, at-head, mapped, get-contains, get-in}
 use Rattle.cp_causes.proofs.Acts.{Acts, Closes, Destroys, IsEndedBy, MayEnd, SessionsUpTo, acts-end_all, acts-expire, acts-outcome, acts-supersede, acts-time_out}

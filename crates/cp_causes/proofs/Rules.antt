@@ -1,12 +1,11 @@
 -- What the rule of an operation may answer the call itself.
-use Rattle.std.proofs.Common.{is_some, ◌≡◌, ℕ, ◌-◌, ◌^◌, Bool, true, false, ◌&&◌, List, Some, None, Option, refl, ap, sym, ◌∙◌, arith, if◌then◌else◌}
+use Rattle.std.proofs.Common.{is_some, ◌≡◌, ℕ, ◌-◌, ◌^◌, Bool, true, List, Some, None, Option, refl, ap, ◌∙◌, arith}
 use Rattle.std.specs.Prelude.{◌==◌, nat_lt, int_lt, ℤ, pos, neg_ℤ, ◌+ℤ◌, ◌-ℤ◌}
 use Rattle.std.specs.Ordering.{nat_cmp}
 use Rattle.std.proofs.lemmas.Bool.Decides.{nat_tests}
 use Rattle.cp_base.specs.declared.identifier.Invocation.{Invocation}
 use Rattle.cp_answers.specs.declared.answer.Answer.{Answer}
 use Rattle.cp_answers.specs.declared.answer.Answer.TheVariants as answer
-use Rattle.cp_op_values.specs.declared.kind.Kind.{Kind}
 use Rattle.cp_op_values.specs.declared.kind.Kind.TheVariants as kind
 use Rattle.cp_object_ops.specs.declared.latch_op.LatchOp.{LatchOp}
 use Rattle.cp_object_ops.specs.declared.latch_op.LatchOp.TheVariants as latch
@@ -38,15 +37,14 @@ use Rattle.cp_group_state.specs.Semaphores as semaphore
 use Rattle.cp_group_state.specs.declared.rows.LatchRow.{LatchRow}
 use Rattle.cp_group_state.specs.Latches.{LatchOutcome, LatchStep, latch_step, latch_at, is_over, counted_calls, most_counted}
 use Rattle.cp_group_state.specs.Latches as countdown
-use Rattle.cp_group_state.specs.Atomics.{AtomicStep, long_step, ref_step, long_at, ref_at, long_set, long_answer, ref_set, ref_answer, set_value}
-use Rattle.cp_group_state.specs.Maps.{Effect, Stays, Sets, Goes, MapStep, Pairs, map_step, map_answer, map_effect, with_effect, key_of}
+use Rattle.cp_group_state.specs.Atomics.{AtomicStep, long_at, ref_at, long_set, long_answer, ref_set, ref_answer, set_value}
+use Rattle.cp_group_state.specs.Maps.{Effect, Stays, Sets, Goes, MapStep, Pairs, map_answer, map_effect, with_effect, key_of}
 use Rattle.cp_group_state.specs.GroupState.{GroupState}
 use Rattle.cp_group_state.specs.Outcomes.{Outcome, Reply, Answered, Waits, wait}
 use Rattle.cp_group_state.specs.LockRules.{lock_rule, on_taken, on_released, owner_answer}
 use Rattle.cp_group_state.specs.SemaphoreRules.{sem_rule, sem_wait, on_sem, is_behind}
 use Rattle.cp_group_state.specs.SessionRules.{session_rule, opened, beat}
-use Rattle.cp_group_state.specs.LatchRules.{latch_rule, on_latch, latch_wait}
-use Rattle.cp_group_state.specs.Destroying.{destroy_rule}
+use Rattle.cp_group_state.specs.LatchRules.{on_latch, latch_wait}
 use Rattle.cp_group_state.specs.Apply.{rule}
 use Rattle.cp_group_state.proofs.Walk.{cases, either}
 use Rattle.cp_causes.specs.Causes.{wish_in}

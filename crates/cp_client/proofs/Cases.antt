@@ -12,10 +12,9 @@ use Rattle.cp_group_state.specs.Rows.{find}
 use Rattle.cp_client_rules.specs.declared.rows.Purpose.{Purpose}
 use Rattle.cp_client_rules.specs.declared.rows.Purpose.TheVariants as purpose
 use Rattle.cp_client_rules.specs.Clients.{Holds, LockKey, Sessions, lock_cmp}
-use Rattle.cp_client_rules.specs.Holds.{Holding, held_after, is_owner, is_unlock, lowered, raised}
+use Rattle.cp_client_rules.specs.Holds.{held_after, is_owner, is_unlock, lowered, raised}
 use Rattle.cp_client_rules.specs.Sessions.{forget_session, forgets, sessions_after}
 use Rattle.cp_client.specs.Changes.{change_of, changed, closed_by}
-use Rattle.cp_client.specs.declared.holds.Change.{Change}
 use Rattle.cp_client.specs.declared.holds.Change.TheVariants as change
 
 module _ (key : LockKey) (o : LockCall) (s : ℕ) (holds : Holds) where

@@ -1,10 +1,9 @@
 -- Steps of a client whose request is over.
-use Rattle.std.proofs.Common.{◌≡◌, ◌<◌, ℕ, Bool, true, false, List, [], ◌∷◌, Option, Some, None, refl, sym, ◌∙◌, ap, subst, cond, arith}
-use Rattle.std.specs.Prelude.{◌+◌, ◌^◌, ◌++◌, ◌==◌, ◌&&◌, is_some, if◌then◌else◌, unsigned_abs}
+use Rattle.std.proofs.Common.{◌≡◌, ◌<◌, ℕ, Bool, true, false, List, [], ◌∷◌, Option, Some, None, refl, sym, ◌∙◌, ap, subst, cond}
+use Rattle.std.specs.Prelude.{◌+◌, ◌^◌, ◌++◌, ◌==◌, ◌&&◌, is_some, unsigned_abs}
 use Rattle.std.specs.declared.cmp.Ordering.{Ordering}
 use Rattle.std.specs.declared.cmp.Ordering.TheVariants.{Less, Equal, Greater}
-use Rattle.std.specs.Ordering.{match_ordering, is_eq, nat_cmp}
-use Rattle.std.specs.BTreeMap.{is_at}
+use Rattle.std.specs.Ordering.{match_ordering, nat_cmp}
 use Rattle.std.proofs.lemmas.List.{append-nil}
 use Rattle.cp_base.specs.declared.identifier.ClientId.{ClientId}
 use Rattle.cp_base.specs.declared.identifier.GroupId.{GroupId}
@@ -17,15 +16,15 @@ use Rattle.cp_ops.specs.declared.op.Op.TheVariants as op
 use Rattle.cp_ops.specs.declared.session_op.SessionOp.TheVariants as session
 use Rattle.cp_object_ops.specs.declared.latch_op.LatchOp.TheVariants as latch
 use Rattle.cp_events.specs.declared.plan.Plan.{Plan}
-use Rattle.cp_group_state.specs.Rows.{find, put}
-use Rattle.cp_group_state.proofs.Keyed.{IsKey, number_key, equal_is, find-put_same, find-put_other}
+use Rattle.cp_group_state.specs.Rows.{put}
+use Rattle.cp_group_state.proofs.Keyed.{IsKey, number_key, find-put_same}
 use Rattle.cp_client_rules.specs.declared.rows.Purpose.{Purpose}
 use Rattle.cp_client_rules.specs.declared.rows.Purpose.TheVariants as purpose
 use Rattle.cp_client_rules.specs.declared.rows.Pending.{Pending}
 use Rattle.cp_client_rules.specs.declared.rows.Task.{Task}
 use Rattle.cp_client_rules.specs.declared.rows.Task.TheVariants as task
 use Rattle.cp_client_rules.specs.declared.rows.Thread.{Thread}
-use Rattle.cp_client_rules.specs.Clients.{Client, Did, answers, ask, done_at_once, idle, nothing, or_new, session_in_group, thread_at, with_thread}
+use Rattle.cp_client_rules.specs.Clients.{Client, Did, answers, ask, done_at_once, idle, nothing, or_new, session_in_group, thread_at}
 use Rattle.cp_client_rules.specs.Sessions.{has_session, opens, with_session}
 use Rattle.cp_client_rules.specs.Asking.{Need, Nothing, HoldingSession, ItsSession, SessionToClose, Round, need_of, op_of}
 use Rattle.cp_client_rules.specs.Calls.{Call, ask_itself, by_need, closing, go_on, holding_session, in_session, pending_of}

@@ -1,12 +1,12 @@
 -- Counts of holds.
-use Rattle.std.proofs.Common.{◌≡◌, ◌<◌, ℕ, Bool, true, false, List, [], ◌∷◌, Option, Some, None, refl, sym, ◌∙◌, ap, subst, cond}
-use Rattle.std.specs.Prelude.{◌^◌, All, nat_lt}
+use Rattle.std.proofs.Common.{◌≡◌, ◌<◌, Bool, true, false, [], ◌∷◌, Some, subst, cond}
+use Rattle.std.specs.Prelude.{◌^◌, All}
 use Rattle.std.specs.Map.{values_of}
 use Rattle.std.specs.BTreeMap.{is_at}
 use Rattle.std.proofs.lemmas.List.Elements.{All-head, All-tail}
 use Rattle.cp_group_state.specs.Rows.{find}
 use Rattle.cp_client_rules.specs.declared.rows.HoldRecord.{HoldRecord}
-use Rattle.cp_client_rules.specs.Clients.{Holds, LockKey, lock_cmp}
+use Rattle.cp_client_rules.specs.Clients.{Holds, lock_cmp}
 use Rattle.cp_client.specs.Rooms.{HoldsHaveRoom}
 
 abbrev pub HasFew : HoldRecord → Type 0

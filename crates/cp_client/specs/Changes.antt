@@ -1,6 +1,5 @@
 -- What an answer changes in what a client keeps.
-use Rattle.std.specs.Prelude.{ℕ, List, Option, Some, None, if◌then◌else◌}
-use Rattle.cp_base.specs.declared.identifier.GroupId.{GroupId}
+use Rattle.std.specs.Prelude.{ℕ, Option, Some, None, if◌then◌else◌}
 use Rattle.cp_answers.specs.declared.answer.Answer.{Answer}
 use Rattle.cp_answers.specs.declared.answer.Answer.TheVariants as answer
 use Rattle.cp_events.specs.declared.user_op.LockCall.{LockCall}

@@ -1,5 +1,5 @@
 -- Clients whose numbers may grow.
-use Rattle.std.specs.Prelude.{◌≡◌, ◌≤◌, ◌<◌, ◌^◌, ℕ, Some}
+use Rattle.std.specs.Prelude.{◌≡◌, ◌≤◌, ◌<◌, ◌^◌, Some}
 use Rattle.cp_base.specs.declared.identifier.ThreadNo.{ThreadNo}
 use Rattle.cp_group_state.specs.Rows.{find}
 use Rattle.cp_client_rules.specs.declared.rows.HoldRecord.{HoldRecord}

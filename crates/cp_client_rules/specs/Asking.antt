@@ -1,7 +1,6 @@
 -- What a call asks of the group: its operation, what it needs before that, and how long it wishes to wait.
 use Rattle.std.specs.Prelude.{ℕ, pos, negsuc, List, [], ◌∷◌, Option, Some, None, if◌then◌else◌, bytes_eq}
 use Rattle.cp_base.specs.declared.identifier.GroupId.{GroupId}
-use Rattle.cp_events.specs.declared.object.Object.{Object}
 use Rattle.cp_events.specs.declared.plan.HoldLimit.{HoldLimit}
 use Rattle.cp_events.specs.declared.plan.Plan.{Plan}
 use Rattle.cp_events.specs.declared.user_op.GroupCall.{GroupCall}

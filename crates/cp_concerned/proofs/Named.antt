@@ -3,7 +3,7 @@ use Rattle.std.proofs.Common.{◌≡◌, ℕ, Bool, true, false, ◌||◌, List,
 use Rattle.std.specs.Prelude.{bytes_eq, is_some}
 use Rattle.std.specs.BTreeMap.{is_at}
 use Rattle.std.specs.Cmp.Lexicographic.{texts_ties}
-use Rattle.cp_group_state.specs.Rows.{find, put, name_cmp}
+use Rattle.cp_group_state.specs.Rows.{put, name_cmp}
 use Rattle.cp_group_state.proofs.Keyed.{name_key, equal_is, find-put_same, find-put_other}
 use Rattle.cp_concerned.specs.Concerns.{has}
 

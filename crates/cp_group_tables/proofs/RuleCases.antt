@@ -1,6 +1,6 @@
 -- What the rules' definitions come to, case by case.
-use Rattle.std.proofs.Common.{◌≡◌, ℕ, Bool, true, false, List, [], ◌∷◌, ℤ, ◌||◌, map, Option, Some, None, refl, ap, sym, ◌∙◌, if◌then◌else◌, cond}
-use Rattle.std.specs.Prelude.{pos, int_lt, nat_lt, neg_ℤ, ◌+ℤ◌, ◌-ℤ◌, ◌+◌, ◌-◌, ◌^◌, ◌==◌}
+use Rattle.std.proofs.Common.{◌≡◌, ℕ, Bool, true, false, List, [], ◌∷◌, ℤ, ◌||◌, map, Option, Some, None, refl, ap, sym, ◌∙◌, if◌then◌else◌}
+use Rattle.std.specs.Prelude.{pos, int_lt, nat_lt, neg_ℤ, ◌+ℤ◌, ◌-ℤ◌, ◌+◌, ◌-◌, ◌^◌}
 use Rattle.std.specs.List.{filter, list_any}
 use Rattle.std.specs.Option.{option_map}
 use Rattle.std.specs.Ordering.{nat_cmp}
@@ -19,22 +19,22 @@ use Rattle.cp_group_state.specs.declared.rows.SessionRow.{SessionRow}
 use Rattle.cp_group_state.specs.declared.rows.SemaphoreRow.{SemaphoreRow}
 use Rattle.cp_group_state.specs.declared.rows.Waiter.{Waiter}
 use Rattle.cp_group_state.specs.Rows.{Named, Object, find, has_room, most, name_cmp, object_cmp}
-use Rattle.cp_group_state.specs.Waiters.{Ended, answered_by, waits_on}
-use Rattle.cp_group_state.specs.Locks.{Acquired, Taken, Full, acquired, acquired_free, acquired_again, lock_at, is_free, is_held_by, most_holds}
-use Rattle.cp_group_state.specs.Semaphores.{Semaphores, SemStep, Wants, sem_step, sem_step_on, sem_step_at, sem_step_absent, raise_total, release_held, is_held, init, held, served}
+use Rattle.cp_group_state.specs.Waiters.{Ended, waits_on}
+use Rattle.cp_group_state.specs.Locks.{Acquired, Full, acquired, lock_at, is_free, is_held_by, most_holds}
+use Rattle.cp_group_state.specs.Semaphores.{Semaphores, SemStep, Wants, sem_step, sem_step_on, sem_step_at, sem_step_absent, raise_total, release_held, is_held, held, served}
 use Rattle.cp_group_state.specs.Sessions.{session_of}
 use Rattle.cp_group_state.specs.GroupState.{GroupState}
 use Rattle.cp_group_state.specs.Changes.{Change}
-use Rattle.cp_group_state.specs.Outcomes.{Outcome, Reply, Answered, Waits, answered}
+use Rattle.cp_group_state.specs.Outcomes.{Reply, Answered, Waits, answered}
 use Rattle.cp_group_state.specs.SessionRules as rules
-use Rattle.cp_group_state.specs.Apply.{Applied, settle, settle_answer, settle_wait, after_change}
+use Rattle.cp_group_state.specs.Apply.{settle, settle_answer, settle_wait, after_change}
 use Rattle.cp_semaphore.specs.Outcomes.{available_of}
 use Rattle.cp_semaphore.specs.Serving.{AreServed}
 use Rattle.cp_session.specs.Creation.{Created, created, created_from}
 use Rattle.cp_session.specs.Creation as creation
 use Rattle.cp_session.specs.Beats.{with_beat, version_after}
 use Rattle.cp_group_tables.specs.declared.ending.Ending.{Ending}
-use Rattle.cp_group_tables.specs.Endings.{ended_by, answer_of}
+use Rattle.cp_group_tables.specs.Endings.{ended_by}
 
 -- both branches of an `if`
 either : {X : Type 0} (P : X → Type 0) (b : Bool) (x y : X) → P x → P y → P (if b then x else y)

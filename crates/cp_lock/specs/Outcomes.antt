@@ -1,5 +1,5 @@
 -- How the answers of the calls stand for those of the group's definitions. Want of memory stands for nothing.
-use Rattle.std.specs.Prelude.{◌≡◌, List, Option, Some, None, if◌then◌else◌}
+use Rattle.std.specs.Prelude.{◌≡◌, Option, Some, None, if◌then◌else◌}
 use Rattle.cp_group_state.specs.Rows.{most}
 use Rattle.cp_group_state.specs.declared.rows.Holder.{Holder}
 use Rattle.cp_group_state.specs.declared.rows.LockRow.{LockRow}

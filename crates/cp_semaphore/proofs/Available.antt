@@ -1,5 +1,5 @@
 -- What stands available of a semaphore whose row was put.
-use Rattle.std.proofs.Common.{◌≡◌, ℤ, List, Option, Some, ap, ◌∙◌}
+use Rattle.std.proofs.Common.{◌≡◌, List, Option, Some, ap, ◌∙◌}
 use Rattle.std.specs.Option.{option_map}
 use Rattle.cp_group_state.specs.Rows.{Object, find, put, object_cmp}
 use Rattle.cp_group_state.specs.declared.rows.SemaphoreRow.{SemaphoreRow}

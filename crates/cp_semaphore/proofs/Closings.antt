@@ -1,5 +1,5 @@
 -- What a session held is gone from the list, and tables stay sound when sessions close.
-use Rattle.std.proofs.Common.{◌≡◌, ◌+◌, ◌^◌, ◌<◌, ◌≤◌, ℕ, Bool, true, false, not, ◌&&◌, ◌||◌, List, [], ◌∷◌, map, sum, length, Option, Some, None, refl, ap, sym, ◌∙◌, subst, cond, arith}
+use Rattle.std.proofs.Common.{◌≡◌, ◌+◌, ◌^◌, ◌<◌, ◌≤◌, ℕ, Bool, true, false, not, ◌&&◌, ◌||◌, List, [], ◌∷◌, map, sum, length, Option, Some, None, refl, ap, sym, ◌∙◌, subst, arith}
 use Rattle.std.specs.Prelude.{◌==◌, ℤ, pos, neg_ℤ, ◌+ℤ◌, ◌≤ℤ◌, unwrap_or, if◌then◌else◌, bytes_eq}
 use Rattle.std.specs.BTreeMap.{BTreeMap, is_at}
 use Rattle.std.specs.Ordering.{nat_cmp}
@@ -9,23 +9,22 @@ use Rattle.std.proofs.lemmas.Int.{ints}
 use Rattle.std.proofs.lemmas.List.Sums.{sum_by-cons}
 use Rattle.std.proofs.lemmas.Bool.Decides.{nat_tests}
 use Rattle.std.proofs.Math.IntN.{+ℤ_assoc, pos-+ℤ-pos}
-use Rattle.cp_op_values.specs.declared.kind.Kind.TheVariants as kind
 use Rattle.cp_group_state.specs.Rows.{Object, find, most, object_cmp, holding_cmp}
 use Rattle.cp_group_state.specs.Sessions.{is_among}
 use Rattle.cp_group_state.specs.Semaphores.{Semaphores, is_held, held, held_together, with_back, all_back}
-use Rattle.cp_group_state.specs.Invariants.{IsRising, IsBalanced, IsBalancedAt, held_by_all, held_of}
+use Rattle.cp_group_state.specs.Invariants.{IsBalanced, IsBalancedAt, held_by_all, held_of}
 use Rattle.cp_group_state.specs.declared.rows.SemaphoreRow.{SemaphoreRow}
 use Rattle.cp_group_state.proofs.Keyed.{no_true, equal_is, number_key, find-filter_kept, find-filter_gone}
 use Rattle.cp_group_state.proofs.Rising.{rising-filter}
 use Rattle.cp_group_state.proofs.Ordered.{holding_total, holding_key, keys-map}
-use Rattle.cp_semaphore.specs.Nested.{Nested, flat, found, found_in, IsNested, ClosesSession}
+use Rattle.cp_semaphore.specs.Nested.{Nested, flat, found_in, IsNested, ClosesSession}
 use Rattle.cp_semaphore.specs.Tables.{seen, IsWithin, RowsWithin, IsSound, IsTable}
-use Rattle.cp_semaphore.specs.Backs.{amount, back_each}
+use Rattle.cp_semaphore.specs.Backs.{back_each}
 use Rattle.cp_semaphore.specs.declared.tables.Tables.{Tables}
 use Rattle.cp_semaphore.proofs.Extensional.{same_rows}
 use Rattle.cp_semaphore.proofs.Flattening.{flat-found, flat-rises, held-flat}
 use Rattle.cp_semaphore.proofs.Together.{Holdings, one-together}
-use Rattle.cp_semaphore.proofs.Backing.{backs, back_row, find-mapped, back-one-session, back-more, back-no-session}
+use Rattle.cp_semaphore.proofs.Backing.{backs, back_row, find-mapped, back-one-session, back-more}
 use Rattle.cp_semaphore.proofs.Rooms.{held-amount}
 
 -- the holdings without a session

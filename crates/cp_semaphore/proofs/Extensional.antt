@@ -1,5 +1,5 @@
 -- Two lists in rising order of their keys that find the same are the same.
-use Rattle.std.proofs.Common.{◌≡◌, Bool, true, false, List, [], ◌∷◌, ◌++◌, Option, Some, None, refl, ap, sym, ◌∙◌, subst, cond}
+use Rattle.std.proofs.Common.{◌≡◌, Bool, true, false, List, [], ◌∷◌, ◌++◌, Option, Some, None, refl, ap, sym, ◌∙◌, cond}
 use Rattle.std.specs.declared.cmp.Ordering.{Ordering}
 use Rattle.std.specs.declared.cmp.Ordering.TheVariants.{Less, Equal, Greater}
 use Rattle.std.specs.Ordering.{is_eq, ordering_reverse}
@@ -10,7 +10,7 @@ use Rattle.std.specs.List.Sorted.{IsStrictlySortedBy}
 use Rattle.std.specs.Map.{keys_of, lookup}
 use Rattle.cp_group_state.specs.Rows.{find}
 use Rattle.cp_group_state.specs.Invariants.{IsRising}
-use Rattle.cp_group_state.proofs.Keyed.{IsKey, equal_is}
+use Rattle.cp_group_state.proofs.Keyed.{IsKey}
 use Rattle.cp_group_state.proofs.Rising.{less-none, above-all}
 
 no_some : {X : Type 0} (x : X) → Some x ≡ None → ⊥

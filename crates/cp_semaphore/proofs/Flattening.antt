@@ -1,14 +1,14 @@
 -- Holdings that are kept session by session, as one list.
-use Rattle.std.proofs.Common.{◌≡◌, ℕ, ◌&&◌, Bool, true, false, List, [], ◌∷◌, ◌++◌, map, Option, Some, None, refl, ap, sym, ◌∙◌, subst, cond, arith}
+use Rattle.std.proofs.Common.{◌≡◌, ℕ, ◌&&◌, Bool, true, false, List, [], ◌∷◌, ◌++◌, Option, Some, None, refl, ap, sym, ◌∙◌, subst, cond, arith}
 use Rattle.std.specs.Prelude.{if◌then◌else◌, ◌==◌, unwrap_or}
 use Rattle.std.specs.declared.cmp.Ordering.{Ordering}
 use Rattle.std.specs.declared.cmp.Ordering.TheVariants.{Less, Equal, Greater}
 use Rattle.std.specs.Ordering.{is_eq, nat_cmp, ordering_then}
 use Rattle.std.specs.BTreeMap.{BTreeMap, is_at}
-use Rattle.std.specs.List.{filter, AllByRecursion}
+use Rattle.std.specs.List.{AllByRecursion}
 use Rattle.std.specs.List.Sorted.{IsStrictlySortedBy}
-use Rattle.std.specs.Map.{keys_of, lookup}
-use Rattle.std.proofs.lemmas.Cmp.{nat_cmp_total, nat_list_cmp_total}
+use Rattle.std.specs.Map.{keys_of}
+use Rattle.std.proofs.lemmas.Cmp.{nat_cmp_total}
 use Rattle.std.proofs.lemmas.Bool.Decides.{nat_tests}
 use Rattle.cp_group_state.specs.Rows.{find, put, without, name_cmp, holding_cmp}
 use Rattle.cp_group_state.specs.Invariants.{IsRising}
@@ -16,7 +16,6 @@ use Rattle.cp_group_state.specs.Semaphores.{held, set_held}
 use Rattle.cp_group_state.proofs.Keyed.{no_true, equal_is, number_key, name_key, find-put_same, find-put_other, find-without_other}
 use Rattle.cp_group_state.proofs.Rising.{less-none, rising-put, rising-without, find-without_same}
 use Rattle.cp_group_state.proofs.Ordered.{holding_total, holding_key}
-use Rattle.cp_group_state.proofs.Walk.{cases}
 use Rattle.cp_semaphore.specs.Nested.{Nested, under, flat, found, found_in, IsNested, held_option, Sets}
 use Rattle.cp_semaphore.proofs.Extensional.{same_rows, AllBelow, rising-append, or_else, lookup-append}
 

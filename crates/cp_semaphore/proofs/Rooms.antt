@@ -6,13 +6,13 @@ use Rattle.std.specs.Ordering.{nat_cmp}
 use Rattle.std.proofs.lemmas.Int.{ints}
 use Rattle.std.proofs.lemmas.Slice.Eq.{bytes_eq-Decides}
 use Rattle.cp_op_values.specs.declared.kind.Kind.TheVariants as kind
-use Rattle.cp_group_state.specs.Rows.{Object, find, put, name_cmp, object_cmp}
+use Rattle.cp_group_state.specs.Rows.{Object, find, put, object_cmp}
 use Rattle.cp_group_state.specs.Semaphores.{held, with_back}
-use Rattle.cp_group_state.specs.Invariants.{IsRising, held_by_all}
+use Rattle.cp_group_state.specs.Invariants.{held_by_all}
 use Rattle.cp_group_state.specs.declared.rows.SemaphoreRow.{SemaphoreRow}
-use Rattle.cp_group_state.proofs.Keyed.{no_true, equal_is, object_key, find-put_same, find-put_other}
-use Rattle.cp_semaphore.specs.Nested.{Nested, flat, found, found_in, IsNested}
-use Rattle.cp_semaphore.specs.Tables.{seen, IsInRange, IsTable, IsMet}
+use Rattle.cp_group_state.proofs.Keyed.{equal_is, object_key, find-put_same, find-put_other}
+use Rattle.cp_semaphore.specs.Nested.{flat, found, found_in}
+use Rattle.cp_semaphore.specs.Tables.{seen, IsTable, IsMet}
 use Rattle.cp_semaphore.specs.Backs.{back_at, back_one, amount, HasRoom, CanBack}
 use Rattle.cp_semaphore.specs.declared.tables.Tables.{Tables}
 use Rattle.cp_semaphore.proofs.Flattening.{held-flat}

@@ -1,6 +1,6 @@
 -- Tables stay sound.
-use Rattle.std.proofs.Common.{◌≡◌, ◌^◌, ◌<◌, ◌≤◌, ◌+◌, ℕ, Bool, true, false, List, [], ◌∷◌, Option, Some, None, refl, ap, sym, ◌∙◌, subst, cond, arith}
-use Rattle.std.specs.Prelude.{ℤ, pos, neg_ℤ, ◌+ℤ◌, ◌-ℤ◌, ◌≤ℤ◌, ◌<ℤ◌, bytes_eq, unwrap_or, if◌then◌else◌}
+use Rattle.std.proofs.Common.{◌≡◌, ◌^◌, ◌<◌, ◌≤◌, ◌+◌, ℕ, Bool, true, false, List, [], ◌∷◌, Option, Some, None, refl, sym, subst, cond, arith}
+use Rattle.std.specs.Prelude.{ℤ, pos, neg_ℤ, ◌+ℤ◌, ◌≤ℤ◌, ◌<ℤ◌, bytes_eq, unwrap_or, if◌then◌else◌}
 use Rattle.std.specs.declared.cmp.Ordering.{Ordering}
 use Rattle.std.specs.declared.cmp.Ordering.TheVariants.{Less, Equal, Greater}
 use Rattle.std.specs.Ordering.{is_eq}
@@ -19,7 +19,7 @@ use Rattle.cp_group_state.specs.Invariants.{IsBalanced, IsBalancedAt, held_by_al
 use Rattle.cp_group_state.specs.declared.rows.SemaphoreRow.{SemaphoreRow}
 use Rattle.cp_group_state.proofs.Ordered.{step-rises, holding_key}
 use Rattle.cp_group_state.proofs.Balance.{step-balanced}
-use Rattle.cp_semaphore.specs.Tables.{seen, IsInRange, IsWithin, RowsWithin, IsSound, IsTable, IsMet}
+use Rattle.cp_semaphore.specs.Tables.{seen, IsInRange, IsSound, IsTable, IsMet}
 use Rattle.cp_semaphore.specs.Nested.{flat, IsNested}
 use Rattle.cp_semaphore.specs.Fitting.{Fits}
 use Rattle.cp_semaphore.specs.declared.tables.Tables.{Tables}

@@ -5,7 +5,7 @@ use Rattle.std.specs.Prelude.{ℤ, pos, neg_ℤ, ◌-ℤ◌, ◌≤ℤ◌, int_l
 use Rattle.std.proofs.lemmas.Int.{ints}
 use Rattle.cp_group_state.specs.Rows.{Object, find, most, object_cmp}
 use Rattle.cp_group_state.specs.Waiters.{waits_on}
-use Rattle.cp_group_state.specs.Semaphores.{Semaphores, is_held, take as taken, take_on, take_all, served}
+use Rattle.cp_group_state.specs.Semaphores.{Semaphores, is_held, take as taken, take_on, served}
 use Rattle.cp_group_state.specs.declared.rows.SemaphoreRow.{SemaphoreRow}
 use Rattle.cp_group_state.specs.declared.rows.Waiter.{Waiter}
 use Rattle.cp_group_state.proofs.Keyed.{find-put_same, object_key}

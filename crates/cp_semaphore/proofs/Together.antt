@@ -1,23 +1,21 @@
 -- What sessions hold together.
-use Rattle.std.proofs.Common.{◌≡◌, ◌+◌, ◌≤◌, ℕ, Bool, true, false, not, ◌&&◌, ◌||◌, List, [], ◌∷◌, map, sum, Option, Some, None, refl, ap, sym, ◌∙◌, subst, cond, arith}
+use Rattle.std.proofs.Common.{◌≡◌, ◌+◌, ℕ, Bool, true, false, not, ◌&&◌, ◌||◌, List, [], ◌∷◌, map, sum, Some, refl, ap, sym, ◌∙◌, subst, cond, arith}
 use Rattle.std.specs.Prelude.{◌==◌, bytes_eq, unwrap_or, if◌then◌else◌}
 use Rattle.std.specs.declared.cmp.Ordering.{Ordering}
 use Rattle.std.specs.declared.cmp.Ordering.TheVariants.{Less, Equal, Greater}
-use Rattle.std.specs.Ordering.{is_eq, nat_cmp}
+use Rattle.std.specs.Ordering.{is_eq}
 use Rattle.std.specs.List.{filter, AllByRecursion}
 use Rattle.std.specs.List.Sorted.{IsStrictlySortedBy}
 use Rattle.std.specs.Map.{keys_of}
 use Rattle.std.proofs.lemmas.Bool.Decides.{nat_tests}
 use Rattle.std.proofs.lemmas.Slice.Eq.{bytes_eq-Decides}
 use Rattle.std.proofs.lemmas.List.Sums.{sum_by-cons}
-use Rattle.std.proofs.lemmas.Cmp.{nat_list_cmp_total}
 use Rattle.cp_group_state.specs.Rows.{find, name_cmp, holding_cmp}
 use Rattle.cp_group_state.specs.Sessions.{is_among}
 use Rattle.cp_group_state.specs.Semaphores.{held, held_together}
 use Rattle.cp_group_state.specs.Invariants.{IsRising}
-use Rattle.cp_group_state.proofs.Keyed.{no_true, number_key, name_key}
-use Rattle.cp_group_state.proofs.Ordered.{holding_total, holding_key}
-use Rattle.cp_group_state.proofs.Rising.{above-all}
+use Rattle.cp_group_state.proofs.Keyed.{no_true, name_key}
+use Rattle.cp_group_state.proofs.Ordered.{holding_key}
 use Rattle.cp_semaphore.specs.Backs.{amount}
 
 abbrev pub Holdings : Type 0

@@ -1,6 +1,6 @@
 -- The numbers of semaphores stay within their bounds.
 use Rattle.std.proofs.Common.{◌≡◌, ◌^◌, ◌<◌, ◌≤◌, ◌+◌, ◌-◌, ℕ, Bool, true, false, ◌||◌, List, [], ◌∷◌, length, Option, Some, None, is_some, refl, ap, sym, ◌∙◌, subst, cond, arith}
-use Rattle.std.specs.Prelude.{ℤ, pos, negsuc, neg_ℤ, ◌+ℤ◌, ◌-ℤ◌, ◌≤ℤ◌, ◌<ℤ◌, int_lt, nat_lt, if◌then◌else◌}
+use Rattle.std.specs.Prelude.{ℤ, pos, negsuc, neg_ℤ, ◌+ℤ◌, ◌-ℤ◌, ◌≤ℤ◌, ◌<ℤ◌, int_lt, nat_lt}
 use Rattle.std.specs.declared.cmp.Ordering.{Ordering}
 use Rattle.std.specs.declared.cmp.Ordering.TheVariants.{Less, Equal, Greater}
 use Rattle.std.specs.Ordering.{match_ordering, is_eq}
@@ -11,10 +11,10 @@ use Rattle.std.proofs.lemmas.Bool.Decides.{nat_tests}
 use Rattle.cp_object_ops.specs.declared.sem_op.SemOp.{SemOp}
 use Rattle.cp_object_ops.specs.declared.sem_op.SemOp.TheVariants as sem
 use Rattle.cp_group_state.specs.Rows.{Object, find, put, without, has_room, most, object_cmp}
-use Rattle.cp_group_state.specs.Semaphores.{Semaphores, SemStep, is_held, held, take, give_back, change_total, at_least_none, raise_total, release_held, init, sem_step, sem_step_at, sem_step_on}
+use Rattle.cp_group_state.specs.Semaphores.{Semaphores, SemStep, is_held, held, take, at_least_none, raise_total, release_held, sem_step, sem_step_on}
 use Rattle.cp_group_state.specs.Invariants.{IsRising}
 use Rattle.cp_group_state.specs.declared.rows.SemaphoreRow.{SemaphoreRow}
-use Rattle.cp_group_state.proofs.Keyed.{no_true, equal_is, object_key, find-put_same, find-put_other, find-without_other}
+use Rattle.cp_group_state.proofs.Keyed.{equal_is, object_key, find-put_same, find-put_other, find-without_other}
 use Rattle.cp_group_state.proofs.Rising.{find-without_same, less-none, above-all}
 use Rattle.cp_group_state.proofs.Ordered.{object_total}
 use Rattle.cp_group_state.proofs.Walk.{cases}

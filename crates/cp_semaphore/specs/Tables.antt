@@ -1,6 +1,5 @@
 -- The two tables of semaphores: their rows, and what sessions hold.
-use Rattle.std.specs.Prelude.{◌≡◌, ◌^◌, ◌<◌, ◌≤◌, ◌≤ℤ◌, ◌<ℤ◌, ℕ, ℤ, List, pos, neg_ℤ, Some, length, All}
-use Rattle.std.specs.Map.{values_of}
+use Rattle.std.specs.Prelude.{◌≡◌, ◌^◌, ◌<◌, ◌≤◌, ◌≤ℤ◌, ◌<ℤ◌, ℕ, ℤ, List, pos, neg_ℤ, Some, length}
 use Rattle.cp_group_state.specs.Rows.{Object, find, most, object_cmp, holding_cmp}
 use Rattle.cp_group_state.specs.Invariants.{IsRising, IsBalanced}
 use Rattle.cp_group_state.specs.Semaphores.{Semaphores, held}

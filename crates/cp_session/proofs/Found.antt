@@ -1,5 +1,5 @@
 -- The session that stands under a client's number is the client's session.
-use Rattle.std.proofs.Common.{◌≡◌, ℕ, Bool, true, false, List, [], ◌∷◌, Option, Some, None, refl, sym, ap, ◌∙◌, subst, cond, if◌then◌else◌}
+use Rattle.std.proofs.Common.{◌≡◌, ℕ, Bool, true, false, List, [], ◌∷◌, Option, Some, None, refl, sym, ap, ◌∙◌, subst, cond}
 use Rattle.std.specs.Ordering.{nat_cmp}
 use Rattle.std.specs.BTreeMap.{is_at}
 use Rattle.std.specs.List.{filter, AllByRecursion}
@@ -16,7 +16,7 @@ use Rattle.cp_group_state.specs.Invariants.{IsRising}
 use Rattle.cp_group_state.proofs.Keyed.{number_key, same-client, equal_is}
 use Rattle.cp_group_state.proofs.Rising.{less-none}
 use Rattle.cp_session.specs.Index.{IsIndexed, client_cmp}
-use Rattle.cp_session.specs.Creation.{Created, Number, created, created_from}
+use Rattle.cp_session.specs.Creation.{Number, created, created_from}
 
 no_true : true ≡ false → ⊥
 no_true e = cc

@@ -1,7 +1,6 @@
 -- Creations are what the group's rule of sessions says.
 use Rattle.std.proofs.Common.{◌≡◌, ℕ, Bool, true, false, Option, Some, None, refl, cond}
 use Rattle.std.specs.Ordering.{nat_cmp}
-use Rattle.cp_base.specs.declared.identifier.Invocation.{Invocation}
 use Rattle.cp_group_state.specs.declared.rows.SessionRow.{SessionRow}
 use Rattle.cp_group_state.specs.Rows.{has_room, most}
 use Rattle.cp_group_state.specs.Sessions.{session_of}

@@ -1,5 +1,5 @@
 -- Tables of sessions: no client has two.
-use Rattle.std.proofs.Common.{◌≡◌, ℕ, Bool, true, false, List, [], ◌∷◌, ◌++◌, ◌&&◌, Option, Some, None, refl, sym, ap, ◌∙◌, subst, append_assoc, cond}
+use Rattle.std.proofs.Common.{◌≡◌, ℕ, Bool, true, false, List, [], ◌∷◌, ◌++◌, ◌&&◌, Some, None, refl, sym, ap, ◌∙◌, subst, append_assoc, cond}
 use Rattle.std.specs.declared.cmp.Ordering.{Ordering}
 use Rattle.std.specs.declared.cmp.Ordering.TheVariants.{Less, Equal, Greater}
 use Rattle.std.specs.Ordering.{is_lt, is_eq, ordering_reverse}
@@ -10,7 +10,7 @@ use Rattle.std.specs.Ordering.{nat_cmp}
 use Rattle.cp_group_state.specs.declared.rows.SessionRow.{SessionRow}
 use Rattle.cp_group_state.specs.Rows.{find, put}
 use Rattle.cp_group_state.specs.Sessions.{is_open_for}
-use Rattle.cp_group_state.specs.Invariants.{IsRising, OneSession}
+use Rattle.cp_group_state.specs.Invariants.{OneSession}
 use Rattle.cp_group_state.proofs.Keyed.{number_key}
 use Rattle.cp_table.specs.Behind.{is_above}
 use Rattle.cp_table.proofs.Ordered.{put_last, above_front}

@@ -10,7 +10,7 @@ use Rattle.std.proofs.lemmas.Cmp.{nat_list_cmp_total}
 use Rattle.std.proofs.lemmas.List.Sums.{sum_by-cons}
 use Rattle.cp_base.specs.declared.identifier.Invocation.{Invocation}
 use Rattle.cp_spelling.specs.Common as spelled
-use Rattle.cp_spelling.specs.Common.{index, invocation}
+use Rattle.cp_spelling.specs.Common.{invocation}
 use Rattle.cp_object_ops.specs.declared.latch_op.LatchOp.{LatchOp}
 use Rattle.cp_object_ops.specs.declared.latch_op.LatchOp.TheVariants as latch
 use Rattle.cp_answers.specs.Answers.{answer_grammar}

@@ -32,7 +32,7 @@ use Rattle.cp_group_state.specs.Waiters.{Ended, waits_on, first, same_call, answ
 use Rattle.cp_group_state.specs.Memory.{has_memory, note_at, note, note_all}
 use Rattle.cp_group_state.specs.Sessions.{is_of, is_open_for, session_of, is_among, unchanged_since, beaten}
 use Rattle.cp_group_state.specs.Locks.{Taken, Fence, Limit, Full, Busy, Released, Freed, Kept, NotOwner, acquired, released_by, held_among}
-use Rattle.cp_group_state.specs.Semaphores.{Semaphores, SemStep, SemOutcome, is_held, held, set_held, take, at_least_none, raise_total, release_held, sem_step, sem_step_on, served, take_on, take_all, all_back, sem_destroyed}
+use Rattle.cp_group_state.specs.Semaphores.{Semaphores, SemStep, SemOutcome, is_held, held, set_held, take, at_least_none, raise_total, release_held, sem_step, sem_step_on, served, take_on, take_all}
 use Rattle.cp_group_state.specs.Semaphores as semaphore
 use Rattle.cp_group_state.specs.Latches.{LatchOutcome, latch_step}
 use Rattle.cp_group_state.specs.Latches as countdown

@@ -1,5 +1,5 @@
 -- Where a run keeps the limits, and where it passes one.
-use Rattle.std.proofs.Common.{◌≡◌, ◌≤◌, ◌<◌, ◌+◌, ◌^◌, ℕ, List, [], ◌∷◌, ◌++◌, length, take, get_or, zero, suc, Some, None, refl, sym, ◌∙◌, ap, subst, append_assoc, length-append, arith}
+use Rattle.std.proofs.Common.{◌≡◌, ◌≤◌, ◌<◌, ◌+◌, ℕ, List, [], ◌∷◌, ◌++◌, length, take, get_or, zero, suc, Some, None, refl, sym, ◌∙◌, ap, subst, arith}
 use Rattle.std.specs.Prelude.{slice_get}
 use Rattle.std.proofs.lemmas.List.{take_more, take_all}
 use Rattle.cp_events.specs.declared.event.Event.{Event}
@@ -11,9 +11,8 @@ use borrow.Author.Count.{below_more}
 use Rattle.cp_schedule.specs.Reading.{line_of_event}
 use Rattle.cp_tool.specs.Limits.{beyond, IsLimit, KeepsLimits, passed, text_of}
 use Rattle.cp_tool.specs.declared.status.LimitName.{LimitName}
-use Rattle.cp_tool.specs.Running.{Follows, Runs, GoesOn, Halts, HaltCause}
+use Rattle.cp_tool.specs.Running.{Follows, Runs, GoesOn, Halts}
 use Rattle.cp_tool.specs.declared.running.Running.{Running}
-use Rattle.cp_tool.specs.declared.running.Halt.{Halt}
 use Rattle.cp_tool.specs.declared.running.Halt.TheVariants as halt
 use Rattle.cp_tool.proofs.Beyond.{few_events}
 

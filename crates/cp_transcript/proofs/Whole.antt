@@ -1,12 +1,11 @@
 -- The whole text, and how long it is.
-use Rattle.std.proofs.Common.{◌≡◌, ℕ, ◌+◌, ◌<◌, List, [], ◌∷◌, ◌++◌, length, codes, ◌==◌, false, refl, sym, ◌∙◌, ap, append_assoc, length-append, arith}
+use Rattle.std.proofs.Common.{◌≡◌, ℕ, ◌+◌, List, [], ◌∷◌, ◌++◌, length, codes, ◌==◌, false, refl, sym, ◌∙◌, ap, length-append, arith}
 use Rattle.std.specs.List.{flat_map}
 use Rattle.std.proofs.lemmas.Fmt.{decimal_digit}
 use Rattle.std.proofs.lemmas.Bool.{ne_eqb}
 use Rattle.cp_events.specs.declared.effects.Effects.{Effects}
 use Rattle.cp_run.specs.Rows.{Committed}
 use Rattle.cp_run.specs.Execution.{histories_of}
-use Rattle.cp_words.specs.Text.{line}
 use Rattle.cp_transcript.specs.Histories.{committed_lines, history_lines}
 use Rattle.cp_transcript.specs.Transcripts.{lines_of}
 use Rattle.cp_transcript.specs.Effects.{effects_lines}

@@ -1,6 +1,6 @@
 -- The rows of a queue, seen as its waiters.
 use Rattle.std.proofs.Common.{◌≡◌, ◌≤◌, ◌<◌, ◌+◌, ℕ, ℤ, Bool, true, false, not, ◌||◌, List, [], ◌∷◌, ◌++◌, length, Option, Some, None, refl, ap, sym, ◌∙◌, subst, cond, is_some, ◌&&◌, nat_lt, map, take, get_or, arith, length-append, zero, suc}
-use Rattle.std.specs.Prelude.{◌==◌, pos, int_lt, ◌-ℤ◌, if◌then◌else◌, find, slice_get}
+use Rattle.std.specs.Prelude.{◌==◌, pos, int_lt, ◌-ℤ◌, if◌then◌else◌, slice_get}
 use Rattle.std.specs.List.{filter, list_any}
 use Rattle.std.proofs.lemmas.List.{take_more}
 use Rattle.std.specs.Map.{lookup, remove_entry, values_of}
@@ -19,7 +19,7 @@ use Rattle.cp_group_state.proofs.Once.{same-call}
 use Rattle.cp_group_state.proofs.Single.{differ-filter, differ-push}
 use Rattle.cp_wait.specs.Arrivals.{calls_of, under_calls, waiter_of, without_waiter, is_of_thread}
 use Rattle.cp_wait.specs.Indexes.{IsIndexed, IsOnly, is_on, is_of_session}
-use Rattle.cp_wait.specs.Queues.{IsQueue, waiters_at, waiter_at, with_waiter, served_at, serve_first}
+use Rattle.cp_wait.specs.Queues.{IsQueue, waiters_at, waiter_at, with_waiter, served_at}
 use Rattle.cp_wait.specs.declared.indexes.Indexes.{Indexes}
 use Rattle.cp_wait.specs.declared.waits.RowsError.{RowsError}
 use Rattle.cp_wait.specs.declared.waits.RowsError.TheVariants as rows

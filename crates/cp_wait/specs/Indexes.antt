@@ -10,9 +10,8 @@ use Rattle.cp_base.specs.declared.identifier.Invocation.{Invocation}
 use Rattle.cp_op_values.specs.declared.kind.Kind.{Kind}
 use Rattle.cp_group_state.specs.Rows.{Object, kind_number, name_cmp}
 use Rattle.cp_group_state.specs.Waiters.{same_call, stands, waits_on}
-use Rattle.cp_group_state.specs.Invariants.{CallsDiffer}
 use Rattle.cp_group_state.specs.declared.rows.Waiter.{Waiter}
-use Rattle.cp_wait.specs.Arrivals.{with_call, without_call, calls_of, without_waiter, is_of_thread, waits_limited}
+use Rattle.cp_wait.specs.Arrivals.{with_call, without_call, calls_of, is_of_thread, waits_limited}
 use Rattle.cp_wait.specs.Keys.{calls_at, calls_under}
 use Rattle.cp_wait.specs.declared.indexes.Indexes.{Indexes}
 

@@ -1,30 +1,26 @@
 -- The parts of an event in the code's world.
 use Rattle.std.proofs.Common.{◌≡◌, ◌≤◌, ◌<◌, ◌+◌, ℕ, List, [], ◌∷◌, ◌++◌, length, map, refl, ap, sym, ◌∙◌, arith, subst, length-append}
-use Rattle.std.specs.Prelude.{◌^◌, ◌*◌, Option, Some, None}
-use Rattle.std.specs.Ordering.{nat_cmp}
+use Rattle.std.specs.Prelude.{◌^◌, ◌*◌, Some, None}
 use Rattle.std.proofs.lemmas.List.{append-nil}
 use Rattle.cp_base.specs.declared.identifier.ClientNo.{ClientNo}
 use Rattle.cp_base.specs.declared.identifier.Invocation.{Invocation}
 use Rattle.cp_answers.specs.declared.answer.Answer.{Answer}
-use Rattle.cp_ops.specs.declared.entry.Entry.{Entry}
 use Rattle.cp_ops.specs.declared.entry.Entry.TheVariants as entry
 use Rattle.cp_events.specs.declared.effects.Effects.{Effects}
 use Rattle.cp_events.specs.declared.effects.Ignored.{Ignored}
 use Rattle.cp_events.specs.declared.event.Event.{Event}
 use Rattle.cp_events.specs.declared.plan.Plan.{Plan}
-use Rattle.cp_group_state.specs.Rows.{put}
 use Rattle.cp_group_state.specs.Apply.{apply}
 use Rattle.cp_group_state.specs.GroupState.{GroupState}
-use Rattle.cp_client_rules.specs.Clients.{Asked, Client, Did}
+use Rattle.cp_client_rules.specs.Clients.{Asked, Did}
 use Rattle.cp_run.specs.Bounds.{AllWithin}
-use Rattle.cp_run.specs.Rows.{Committed}
 use Rattle.cp_run.proofs.Bounds.{after, begins, hands_on}
 use Rattle.cp_run.proofs.Settled.{settled}
 use Rattle.cp_run.specs.World as rules
 use Rattle.cp_world.specs.declared.turn.Turn.{Turn}
 use Rattle.cp_world.specs.declared.world.World.{World}
-use Rattle.cp_world.specs.Following.{Follows, Goes, IsStep, Leads, LeadsFrom, committed_at}
-use Rattle.cp_world.specs.Rooms.{CanCount, HasRoomFor, IsReached}
+use Rattle.cp_world.specs.Following.{Follows, Goes, IsStep, Leads, LeadsFrom}
+use Rattle.cp_world.specs.Rooms.{HasRoomFor, IsReached}
 use Rattle.cp_world.proofs.Growing.{after_step, handed_grows}
 use Rattle.cp_world.proofs.Leading.{history_more}
 

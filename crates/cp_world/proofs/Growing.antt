@@ -1,6 +1,5 @@
 -- Histories grow.
-use Rattle.std.proofs.Common.{◌≡◌, ◌≤◌, ◌<◌, ◌+◌, ℕ, List, [], ◌∷◌, ◌++◌, length, refl, ap, sym, ◌∙◌, arith, length-append}
-use Rattle.std.specs.Prelude.{◌^◌, ◌*◌}
+use Rattle.std.proofs.Common.{◌≡◌, ◌≤◌, ◌+◌, List, [], ◌∷◌, ◌++◌, length, refl, arith, length-append}
 use Rattle.cp_base.specs.declared.identifier.ClientNo.{ClientNo}
 use Rattle.cp_base.specs.declared.identifier.Invocation.{Invocation}
 use Rattle.cp_answers.specs.declared.answer.Answer.{Answer}
@@ -10,7 +9,6 @@ use Rattle.cp_ops.specs.declared.entry.Entry.TheVariants as entry
 use Rattle.cp_client_rules.specs.Clients.{Asked, Did}
 use Rattle.cp_base.specs.Identifiers.{replay_id}
 use Rattle.cp_client_rules.specs.Answers.{answer_client}
-use Rattle.cp_run.specs.Rows.{Committed}
 use Rattle.cp_run.specs.World.{World, client_at, client_of, commit, commit_all, does, hand_all, hand_on, handed, note, world_after, world_step}
 
 pub commit_grows : (a : Asked) (w : World) → length (commit a w).history ≡ length w.history + 1

@@ -1,21 +1,19 @@
 -- Steps of the code's world, one after another.
-use Rattle.std.proofs.Common.{◌≡◌, ◌≤◌, ◌<◌, ◌+◌, ℕ, List, [], ◌∷◌, ◌++◌, length, map, refl, ap, sym, ◌∙◌, arith, subst, append_assoc, length-append}
+use Rattle.std.proofs.Common.{◌≡◌, ◌<◌, ◌+◌, ℕ, List, [], ◌∷◌, ◌++◌, length, refl, ap, sym, ◌∙◌, arith, append_assoc}
 use Rattle.std.specs.Prelude.{◌^◌}
-use Rattle.cp_base.specs.declared.identifier.ClientNo.{ClientNo}
 use Rattle.cp_base.specs.declared.identifier.Invocation.{Invocation}
 use Rattle.cp_answers.specs.declared.answer.Answer.{Answer}
-use Rattle.cp_events.specs.declared.event.Event.{Event}
 use Rattle.cp_events.specs.declared.plan.Plan.{Plan}
 use Rattle.cp_ops.specs.declared.entry.Entry.{Entry}
-use Rattle.cp_client_rules.specs.Clients.{Asked, Did}
+use Rattle.cp_client_rules.specs.Clients.{Asked}
 use Rattle.cp_run.specs.Rows.{Committed}
 use Rattle.cp_run.proofs.Bounds.{hands_on}
 use Rattle.cp_run.specs.World as rules
 use Rattle.cp_world.specs.declared.turn.Turn.{Turn}
 use Rattle.cp_world.specs.declared.world.World.{World}
-use Rattle.cp_world.specs.Following.{Goes, Leads, committed_at}
+use Rattle.cp_world.specs.Following.{Leads, committed_at}
 use Rattle.cp_world.specs.Rooms.{CanCount, HasRoomFor}
-use Rattle.cp_world.proofs.Growing.{commit_grows, commit_all_grows, does_grows, hand_all_grows}
+use Rattle.cp_world.proofs.Growing.{commit_grows, commit_all_grows, hand_all_grows}
 
 abbrev Rules : Type 0
 Rules = rules.World

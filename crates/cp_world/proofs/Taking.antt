@@ -1,24 +1,19 @@
 -- A client takes its step where it stands in the world.
-use Rattle.std.proofs.Common.{◌≡◌, ◌≤◌, ◌<◌, ◌+◌, ℕ, Bool, true, false, List, [], ◌∷◌, ◌++◌, Option, Some, None, length, refl, ap, sym, ◌∙◌, arith, subst, cond}
+use Rattle.std.proofs.Common.{◌≡◌, ◌≤◌, ◌<◌, ◌+◌, ℕ, Bool, true, false, List, [], ◌∷◌, ◌++◌, Some, None, length, refl, ap, sym, ◌∙◌, arith, subst, cond}
 use Rattle.std.specs.Prelude.{◌^◌, All}
 use Rattle.std.specs.Ordering.{nat_cmp}
 use Rattle.std.specs.BTreeMap.{is_at}
 use Rattle.std.specs.Map.{set_value}
 use Rattle.std.proofs.lemmas.Cmp.{nat_cmp_total}
 use Rattle.std.proofs.lemmas.List.Elements.{All-head, All-tail}
-use Rattle.cp_base.specs.Identifiers.{replay_id}
 use Rattle.cp_base.specs.declared.identifier.ClientNo.{ClientNo}
-use Rattle.cp_base.specs.declared.identifier.Invocation.{Invocation}
 use Rattle.cp_base.specs.declared.identifier.ThreadNo.{ThreadNo}
-use Rattle.cp_answers.specs.declared.answer.Answer.{Answer}
 use Rattle.cp_events.specs.declared.event.Event.{Event}
-use Rattle.cp_events.specs.declared.plan.Plan.{Plan}
 use Rattle.cp_events.specs.declared.user_op.UserOp.{UserOp}
 use Rattle.cp_group_state.specs.Rows.{find, put}
 use Rattle.cp_group_state.specs.Invariants.{IsRising}
 use Rattle.cp_client_rules.specs.declared.rows.HoldRecord.{HoldRecord}
-use Rattle.cp_client_rules.specs.Clients.{Client, Did, LockKey, lock_cmp, new_client, thread_at}
-use Rattle.cp_client_rules.specs.Answers.{answer_client}
+use Rattle.cp_client_rules.specs.Clients.{Client, Did, LockKey, lock_cmp, new_client}
 use Rattle.cp_client.specs.declared.output.ClientOut.{ClientOut}
 use Rattle.cp_client.specs.Rooms.{HasRoom}
 use Rattle.cp_client.specs.Steps.{Gives}

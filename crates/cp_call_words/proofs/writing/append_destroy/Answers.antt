@@ -1,4 +1,3 @@
-use Rattle.std.proofs.Common.{◌≡◌, ◌++◌, ◌∷◌, [], List, ℕ}
 use Rattle.cp_call_words.specs.Shown.{named, with_group}
 use Rattle.cp_call_words.proofs.CallTexts.{destroy_written}
 use Rattle.cp_call_words.proofs.writing.append_destroy.Goals as goal

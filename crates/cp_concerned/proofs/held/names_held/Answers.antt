@@ -1,4 +1,4 @@
-use Rattle.std.proofs.Common.{ℕ, List, ◌||◌, ap, sym, ◌∙◌}
+use Rattle.std.proofs.Common.{◌||◌, ap, sym, ◌∙◌}
 use Rattle.cp_semaphore.specs.Nested.{Nested, flat}
 use Rattle.cp_concerned.specs.Concerns.{has, held_named}
 use Rattle.cp_concerned.proofs.Together.{held_more, not_held}

@@ -1,5 +1,5 @@
-use Rattle.std.proofs.Common.{◌≡◌, ℕ, List, Option, Some, None, ap, sym, ◌∙◌, subst}
-use Rattle.cp_semaphore.specs.Nested.{held_option, Sets}
+use Rattle.std.proofs.Common.{ℕ, List, Option, Some, subst}
+use Rattle.cp_semaphore.specs.Nested.{Sets}
 use Rattle.cp_semaphore.proofs.Flattening.{flat-set, flat-same, none-held, some-held}
 use Rattle.cp_semaphore.proofs.holdings.set.Goals as goal
 

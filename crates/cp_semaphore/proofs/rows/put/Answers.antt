@@ -1,6 +1,6 @@
-use Rattle.std.proofs.Common.{◌≡◌, subst, IsSome, sym}
+use Rattle.std.proofs.Common.{◌≡◌, subst}
 use Rattle.std.specs.declared.cmp.Ordering.{Ordering}
-use Rattle.cp_group_state.specs.Rows.{Object, find, put, without, has_room, most}
+use Rattle.cp_group_state.specs.Rows.{Object, put}
 use Rattle.cp_semaphore.proofs.ObjectOrder.{objects_in_order}
 use Rattle.cp_semaphore.proofs.rows.put.Goals as goal
 

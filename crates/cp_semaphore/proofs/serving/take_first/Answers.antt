@@ -1,6 +1,5 @@
-use Rattle.std.proofs.Common.{◌≡◌, ap}
+use Rattle.std.proofs.Common.{ap}
 use Rattle.cp_group_state.specs.Semaphores.{Semaphores, take_all}
-use Rattle.cp_semaphore.specs.Tables.{seen}
 use Rattle.cp_semaphore.proofs.Taking.{next-table, next-can, same-table}
 use Rattle.cp_semaphore.proofs.serving.take_first.Goals as goal
 

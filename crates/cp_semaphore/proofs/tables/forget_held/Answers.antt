@@ -1,4 +1,4 @@
-use Rattle.std.proofs.Common.{◌≡◌, sym, ◌∙◌, refl, true, false}
+use Rattle.std.proofs.Common.{sym, ◌∙◌, refl, true, false}
 use Rattle.cp_group_state.specs.Semaphores.{is_held}
 use Rattle.cp_group_state.proofs.Keyed.{no_true}
 use Rattle.cp_semaphore.specs.Nested.{flat}

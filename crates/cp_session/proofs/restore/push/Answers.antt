@@ -1,5 +1,4 @@
 use Rattle.std.proofs.Common.{◌∙◌, sym, refl}
-use Rattle.cp_table.specs.Behind.{IsPushError, is_above}
 use Rattle.cp_session.proofs.Indexed.{opened_new, taken_back}
 use Rattle.cp_session.proofs.Tabled.{above_none, behind_sets, client_unfit, order_unfit}
 use Rattle.cp_session.proofs.restore.push.Goals as goal

@@ -1,4 +1,4 @@
-use Rattle.std.proofs.Common.{◌≡◌, ◌+◌, ◌∙◌, take, ap, subst, arith}
+use Rattle.std.proofs.Common.{◌+◌, ◌∙◌, take, ap, subst, arith}
 use Rattle.cp_run.specs.Execution.{events_of}
 use Rattle.cp_schedule.specs.Reading.{line_of_event}
 use Rattle.cp_tool.specs.Running.{Runs}

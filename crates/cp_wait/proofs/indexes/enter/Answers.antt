@@ -1,4 +1,3 @@
-use Rattle.std.proofs.Common.{◌≡◌}
 use Rattle.cp_wait.proofs.indexes.enter.Goals as goal
 
 pub returns-in-Err-clause-err : goal.returns-in-Err-clause-err

@@ -1,4 +1,4 @@
-use Rattle.std.proofs.Common.{◌≡◌, inl}
+use Rattle.std.proofs.Common.{inl}
 use Rattle.cp_wait.specs.Arrivals.{is_of_thread}
 use Rattle.cp_wait.specs.Indexes.{object_calls, thread_calls, session_calls, limited_calls, is_on, is_of_session, is_limited_at}
 use Rattle.cp_wait.proofs.Arriving.{came, partly, not_yet}

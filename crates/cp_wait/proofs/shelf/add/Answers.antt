@@ -1,4 +1,4 @@
-use Rattle.std.proofs.Common.{◌≡◌, sym, ap, is_some}
+use Rattle.std.proofs.Common.{sym, ap, is_some}
 use Rattle.cp_wait.specs.Arrivals.{with_call}
 use Rattle.cp_wait.proofs.Shelves.{changed_under}
 use Rattle.cp_wait.proofs.shelf.add.Goals as goal

@@ -1,4 +1,4 @@
-use Rattle.std.proofs.Common.{◌≡◌, ◌∙◌}
+use Rattle.std.proofs.Common.{◌∙◌}
 use Rattle.std.specs.Map.{values_of}
 use Rattle.cp_wait.proofs.Standing.{looked-up, absent-none, queue-push, queue-undo}
 use Rattle.cp_wait.proofs.waits.enter.Goals as goal

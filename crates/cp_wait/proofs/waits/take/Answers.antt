@@ -1,4 +1,4 @@
-use Rattle.std.proofs.Common.{◌≡◌, ◌∙◌, sym}
+use Rattle.std.proofs.Common.{◌∙◌, sym}
 use Rattle.cp_wait.proofs.Standing.{looked-up, queue-absent, queue-left}
 use Rattle.cp_wait.proofs.waits.take.Goals as goal
 

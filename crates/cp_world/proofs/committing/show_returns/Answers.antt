@@ -1,4 +1,4 @@
-use Rattle.std.proofs.Common.{◌++◌, map, ap, ◌∙◌, sym, arith}
+use Rattle.std.proofs.Common.{◌++◌, map, ap, arith}
 use Rattle.cp_world.proofs.Turned.{all_shown, one_shown}
 use Rattle.cp_world.proofs.committing.show_returns.Goals as goal
 

@@ -1,4 +1,4 @@
-use Rattle.std.proofs.Common.{◌≡◌, ℕ, List, ap, sym, ◌∙◌}
+use Rattle.std.proofs.Common.{◌≡◌, ℕ, List, ap, ◌∙◌}
 use Rattle.std.specs.Prelude.{◌++◌}
 use Rattle.cp_group_state.specs.Rows.{Object}
 use Rattle.cp_group_state.specs.Waiters.{Ended}

@@ -1,13 +1,11 @@
-use Rattle.std.proofs.Common.{Bool, ◌&&◌, ◌||◌, List, ap, sym, ◌∙◌}
-use Rattle.std.specs.Prelude.{bytes_eq}
+use Rattle.std.proofs.Common.{Bool, ◌||◌, ap, ◌∙◌}
 use Rattle.std.specs.List.{filter, list_any}
 use Rattle.std.specs.Map.{keys_of}
 use Rattle.cp_group_state.specs.Rows.{Object}
 use Rattle.cp_group_state.specs.GroupState.{GroupState}
 use Rattle.cp_group_state.specs.Waiters.{waits_on}
-use Rattle.cp_group_state.specs.Closing.{concerned, is_held_by_some}
+use Rattle.cp_group_state.specs.Closing.{is_held_by_some}
 use Rattle.cp_group_tables.specs.declared.ending.Ending.TheVariants as ending
-use Rattle.cp_group_tables.specs.Endings.{ended_by}
 use Rattle.cp_group_tables.proofs.RuleCases.{left_waiters}
 use Rattle.cp_group_tables.proofs.tables.GroupTables.concerned.Goals as goal
 

@@ -1,6 +1,5 @@
-use Rattle.std.proofs.Common.{◌≡◌, ℕ, List, ap, ◌∙◌}
+use Rattle.std.proofs.Common.{ℕ, List, ap, ◌∙◌}
 use Rattle.std.specs.Prelude.{◌++◌}
-use Rattle.cp_group_state.specs.Sessions.{unchanged_since}
 use Rattle.cp_group_state.specs.Closing.{close}
 use Rattle.cp_group_state.specs.Apply.{told}
 use Rattle.cp_group_tables.proofs.tables.GroupTables.expire_sessions.Goals as goal

@@ -1,6 +1,6 @@
 use Rattle.std.proofs.Common.{◌≡◌, ◌++◌, length}
 use Rattle.cp_group_state.specs.Changes.{for_each}
-use Rattle.cp_group_state.specs.Serving.{hand_over, serve}
+use Rattle.cp_group_state.specs.Serving.{hand_over}
 use Rattle.cp_group_state.specs.Apply.{told}
 use Rattle.cp_group_tables.specs.Stand.{EachStands}
 use Rattle.cp_group_tables.proofs.tables.GroupTables.hand_over_each.Given as goal

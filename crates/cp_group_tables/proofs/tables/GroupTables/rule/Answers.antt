@@ -1,4 +1,4 @@
-use Rattle.std.proofs.Common.{◌≡◌, ap, sym, ◌∙◌}
+use Rattle.std.proofs.Common.{ap, sym, ◌∙◌}
 use Rattle.std.specs.Prelude.{◌++◌}
 use Rattle.cp_answers.specs.declared.answer.Answer.{Answer}
 use Rattle.cp_ops.specs.declared.op.Op.{Op}

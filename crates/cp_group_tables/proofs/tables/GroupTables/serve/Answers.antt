@@ -1,6 +1,4 @@
-use Rattle.std.proofs.Common.{◌≡◌, Some, ap, sym, ◌∙◌, rules}
-use Rattle.cp_semaphore.specs.Outcomes.{available_of}
-use Rattle.cp_group_state.specs.GroupState.{GroupState}
+use Rattle.std.proofs.Common.{◌∙◌, rules}
 use Rattle.cp_group_tables.proofs.RuleCases.{are_served}
 use Rattle.cp_group_tables.proofs.tables.GroupTables.serve.Goals as goal
 

@@ -1,8 +1,7 @@
 use Rattle.std.proofs.Common.{◌≡◌, ◌++◌, length}
 use Rattle.cp_group_state.specs.Changes.{for_each}
-use Rattle.cp_group_state.specs.Serving.{hand_over, serve}
+use Rattle.cp_group_state.specs.Serving.{serve}
 use Rattle.cp_group_state.specs.Apply.{told}
-use Rattle.cp_lock.specs.Tables.{AreThere}
 use Rattle.cp_group_tables.proofs.tables.GroupTables.serve_each.Given as goal
 
 abbrev pub invariant-loop-rest : goal.invariant-loop-rest

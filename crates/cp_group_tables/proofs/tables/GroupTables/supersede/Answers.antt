@@ -1,4 +1,4 @@
-use Rattle.std.proofs.Common.{◌≡◌, ℕ, List, map, ap, sym, ◌∙◌}
+use Rattle.std.proofs.Common.{◌≡◌, List, map, ap, sym, ◌∙◌}
 use Rattle.std.specs.Prelude.{◌++◌}
 use Rattle.cp_answers.specs.declared.answer.Answer.TheVariants as answer
 use Rattle.cp_group_state.specs.declared.rows.Waiter.{Waiter}

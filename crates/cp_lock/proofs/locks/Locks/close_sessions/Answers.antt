@@ -1,5 +1,3 @@
-use Rattle.cp_group_state.specs.Locks.{held_among, freed_all}
-use Rattle.cp_lock.specs.Tables.{AreThere}
 use Rattle.cp_lock.proofs.Standing.{held_there}
 use Rattle.cp_lock.proofs.locks.Locks.close_sessions.Goals as goal
 

@@ -1,6 +1,4 @@
-use Rattle.std.proofs.Common.{◌≡◌, Some, sym, ap, refl, ◌∙◌}
-use Rattle.std.specs.Ordering.{nat_cmp}
-use Rattle.cp_group_state.specs.Rows.{find}
+use Rattle.std.proofs.Common.{sym, ap}
 use Rattle.cp_group_state.specs.declared.rows.SessionRow.{SessionRow}
 use Rattle.cp_session.proofs.Indexed.{kept_client}
 use Rattle.cp_session.proofs.sessions.Sessions.heartbeat.Goals as goal

@@ -1,6 +1,5 @@
-use Rattle.std.proofs.Common.{◌≡◌, ◌+◌, ◌<◌, ◌≤◌, ◌-◌, ℕ, map, take, length, ap, sym, ◌∙◌, arith}
+use Rattle.std.proofs.Common.{◌≡◌, ◌+◌, ◌<◌, ◌-◌, ℕ, map, take, length, ap, sym, ◌∙◌, arith}
 use Rattle.cp_group_state.specs.Waiters.{still_waiting, answered_by}
-use Rattle.cp_group_state.specs.declared.rows.Waiter.{Waiter}
 use Rattle.cp_wait.proofs.Standing.{leaves-last, still-none}
 use Rattle.cp_wait.proofs.waits.Waits.end.Goals as goal
 

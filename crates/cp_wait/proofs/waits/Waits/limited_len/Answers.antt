@@ -1,4 +1,4 @@
-use Rattle.std.proofs.Common.{List, ap, ◌∙◌, ◌≡◌, length}
+use Rattle.std.proofs.Common.{List, ap, ◌∙◌, length}
 use Rattle.std.specs.List.{filter}
 use Rattle.std.specs.Map.{values_of}
 use Rattle.cp_group_state.specs.declared.rows.Waiter.{Waiter}

@@ -1,4 +1,4 @@
-use Rattle.std.proofs.Common.{List, [], ap, sym, ◌∙◌, ◌≡◌, subst, IfOk, Option}
+use Rattle.std.proofs.Common.{List, [], ap, ◌∙◌, ◌≡◌, subst, IfOk, Option}
 use Rattle.std.specs.List.{filter}
 use Rattle.std.specs.Map.{values_of}
 use Rattle.cp_group_state.specs.Waiters.{same_call}

@@ -5,7 +5,6 @@ use Rattle.std.specs.Map.{values_of}
 use Rattle.cp_base.specs.declared.identifier.Invocation.{Invocation}
 use Rattle.cp_group_state.specs.Apply.{is_older}
 use Rattle.cp_group_state.specs.declared.rows.Waiter.{Waiter}
-use Rattle.cp_wait.specs.Arrivals.{calls_of}
 use Rattle.cp_wait.proofs.Standing.{gathered, older-calls}
 use Rattle.cp_wait.proofs.waits.Waits.older.Goals as goal
 

@@ -1,4 +1,4 @@
-use Rattle.std.proofs.Common.{List, ap, ◌∙◌, ◌≡◌, is_some}
+use Rattle.std.proofs.Common.{List, ap, ◌∙◌, is_some}
 use Rattle.std.specs.Map.{values_of}
 use Rattle.cp_group_state.specs.Waiters.{stands}
 use Rattle.cp_group_state.specs.declared.rows.Waiter.{Waiter}

@@ -1,4 +1,4 @@
-use Rattle.std.proofs.Common.{List, ap, ◌∙◌, ◌≡◌}
+use Rattle.std.proofs.Common.{List, ap, ◌∙◌}
 use Rattle.cp_group_state.specs.declared.rows.Waiter.{Waiter}
 use Rattle.cp_wait.specs.Arrivals.{waiter_of}
 use Rattle.cp_wait.proofs.Standing.{looked-up}
