@@ -20,7 +20,9 @@ pub struct Turn {
 
 impl Turn {
     /// Nothing.
-    pub fn new(alloc: Global) -> Turn {
+    pub fn new(alloc: Global) -> Turn
+        ensures { result ≡ record { number = 0; ignored = None; opened = []; returns = []; entries = [] } }
+    {
         Turn {
             number: 0,
             ignored: None,
