@@ -5,7 +5,7 @@ use Rattle.cp_base.specs.declared.identifier.ThreadNo.{ThreadNo}
 use Rattle.cp_base.specs.declared.identifier.GroupId.{GroupId}
 use Rattle.cp_grammar.specs.Grammar.{Grammar, always, keyed, variant, case, no_case, ◌then◌}
 use Rattle.cp_grammar.specs.Fields.{byte, number, signed, flag}
-use Rattle.cp_spelling.specs.Common.{index, group_id, thread_no, members}
+use Rattle.cp_grammar.specs.Common.{index, group_id, thread_no, members}
 use Rattle.cp_op_values.specs.Numbers.{any_u32, any_u64, permits}
 use Rattle.cp_op_values.specs.Values.{reference, value, reference_text, members_text}
 use Rattle.cp_answers.specs.declared.argument.Argument.{Argument}

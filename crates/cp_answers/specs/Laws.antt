@@ -7,8 +7,8 @@ use Rattle.cp_grammar.proofs.Laws.{enum_lawful, with_unit, with_variant, no_case
 use Rattle.cp_grammar.proofs.FieldLaws.{lawful, byte_lawful}
 use Rattle.cp_grammar.specs.Grammar.{◌then◌}
 use Rattle.cp_grammar.specs.Fields.{byte, signed, flag}
-use Rattle.cp_spelling.specs.Common.{index, group_id, thread_no, members}
-use Rattle.cp_spelling.specs.CommonLaws.{index_lawful, group_lawful, thread_lawful, members_lawful}
+use Rattle.cp_grammar.specs.Common.{index, group_id, thread_no, members}
+use Rattle.cp_grammar.specs.CommonLaws.{index_lawful, group_lawful, thread_lawful, members_lawful}
 use Rattle.cp_op_values.specs.Numbers.{any_u32, any_u64}
 use Rattle.cp_op_values.specs.Values.{reference}
 use Rattle.cp_answers.specs.Arguments.{argument}

@@ -4,11 +4,11 @@ ghost use Rattle.std.specs.Prelude.{◌≤◌, ◌^◌, IfOk};
 use crate::answers;
 use cp_answers::Answer;
 use cp_base::{Invocation, Items, NoMemory, Text, read_decimal, read_hex};
+use cp_grammar::{MOST_INDEX, ReadError};
 use cp_io::{Fault, ReadEnd, Sink, Source, read_all, write_all};
 use cp_op_values::append_numbered;
 use cp_ops::{Entry, Op};
 use cp_resource::GroupMachine;
-use cp_spelling::{MOST_INDEX, ReadError};
 use std::alloc::{AllocError, AllocFailed, Global};
 
 /// Why rows were not shown to their end.

@@ -5,9 +5,9 @@ use Rattle.std.specs.List.{list_all}
 use Rattle.std.proofs.lemmas.Bool.{eqb-true}
 use Rattle.cp_base.specs.Names.{is_name_byte, name_fault}
 use Rattle.cp_base.proofs.NameLemmas as names
-use Rattle.cp_spelling.specs.Common.{is_none}
-use Rattle.cp_value_words.specs.Values.{is_name}
-use Rattle.cp_words.specs.Text.{Lacks}
+use Rattle.cp_grammar.specs.Common.{is_none}
+use Rattle.cp_call_words.specs.Values.{is_name}
+use Rattle.cp_base.specs.Text.{Lacks}
 use Rattle.cp_call_words.specs.Objects.{before_at, from_at, object_with, object_of, is_object}
 
 and_true : (a b : Bool) → (a && b) ≡ true → (a ≡ true) × (b ≡ true)

@@ -1,14 +1,14 @@
 //! Objects as a call names them.
 ghost use Rattle.std.specs.Prelude.{◌≡◌, ◌++◌, ◌∷◌, [], true, false, OnOk, IfOk, MatchOption};
 ghost use Rattle.std.specs.Option.{option_copied};
-ghost use Rattle.cp_spelling.specs.Readers.{Reads};
+ghost use Rattle.cp_grammar.specs.Readers.{Reads};
 ghost use Rattle.cp_call_words.specs.Objects.{object_of, object_with, object_text, group_text, is_object, object_word};
 ghost use Rattle.cp_call_words.specs.Shown.{named, with_group};
 
+use crate::{is_word, read_group, read_name};
 use cp_base::{Name, NoMemory, split_at_byte};
 use cp_events::Object;
-use cp_spelling::{SPACE, Stop, take_word};
-use cp_value_words::{is_word, read_group, read_name};
+use cp_grammar::{SPACE, Stop, take_word};
 use std::alloc::Global;
 
 /// What stands before the first `@`, and what stands behind it.

@@ -1,5 +1,5 @@
 use super::*;
-use cp_spelling::Stop;
+use cp_grammar::Stop;
 use std::test::*;
 
 const MANAGED: Context = Context {

@@ -1,9 +1,9 @@
 -- A change leaves members by rising number, one at least.
 use Rattle.std.proofs.Common.{◌≡◌, ◌≢◌, ◌==◌, ◌<◌, ◌≤◌, ◌&&◌, ◌||◌, not, ℕ, ⊎_elim, Bool, true, false, List, [], ◌∷◌, length, refl, sym, Option, Some, None, true≢false, nat_lt, if◌then◌else◌, arith}
 use Rattle.std.proofs.lemmas.Bool.{cases_Bool, lt-ltb, ltb-true, ltb-false, eqb-false}
-use Rattle.cp_step.specs.declared.change.Change.{Change}
-use Rattle.cp_step.specs.Persistent.{is_member}
-use Rattle.cp_step.specs.Changes.{may_change, with_member, without_member}
+use Rattle.cp_rules.specs.declared.change.Change.{Change}
+use Rattle.cp_rules.specs.Persistent.{is_member}
+use Rattle.cp_rules.specs.Changes.{may_change, with_member, without_member}
 use Rattle.cp_change.specs.Decisions.{unfit}
 use Rattle.cp_change.specs.Laws.{is_rising, AreMembers, ChangesLeaveMembers}
 

@@ -2,7 +2,7 @@ use super::*;
 use cp_answers::Refusal;
 use cp_base::{Items, MemberNo};
 use cp_parts::Config;
-use cp_step::Change;
+use cp_rules::Change;
 use std::alloc::Global;
 use std::test::*;
 

@@ -17,7 +17,7 @@ use cp_answers::Answer;
 use cp_base::{ClientId, GroupId, Invocation, NoMemory, ThreadNo};
 use cp_client_rules::{OwnSession, Pending, Purpose, Task};
 use cp_events::{Ending, Opened, Plan, Return};
-use cp_table::put_row;
+use cp_rows::put_row;
 
 /// What an answer lets a call do.
 #[derive(Clone, Copy, Debug, PartialEq, Eq)]

@@ -13,7 +13,7 @@ use cp_base::{GroupId, Name, NoMemory, ThreadNo};
 use cp_client_rules::{HoldRecord, Purpose};
 use cp_events::{LockCall, UserOp};
 use cp_op_values::Kind;
-use cp_table::put_row;
+use cp_rows::put_row;
 use std::collections::BTreeMap;
 
 /// A lock of a group as a thread knows it: the thread, the group, the name.

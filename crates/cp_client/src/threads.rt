@@ -7,7 +7,7 @@ ghost use Rattle.cp_client.specs.Threads.{is_open, open_number, idle_row};
 
 use cp_base::{Invocation, NoMemory, ThreadNo};
 use cp_client_rules::{Pending, Thread};
-use cp_table::put_row;
+use cp_rows::put_row;
 use std::collections::BTreeMap;
 use std::mem;
 

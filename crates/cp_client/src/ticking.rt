@@ -16,7 +16,7 @@ use cp_base::{ClientId, GroupId, NoMemory, ThreadNo};
 use cp_client_rules::{OwnSession, Pending, Purpose, Task, Thread};
 use cp_events::{Ending, Return};
 use cp_ops::{Op, SessionOp};
-use cp_table::put_row;
+use cp_rows::put_row;
 use std::collections::BTreeMap;
 
 /// How long a session goes without a beat, in milliseconds.

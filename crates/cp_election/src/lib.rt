@@ -1,5 +1,5 @@
 //! Elections: terms, pre-votes and votes, and when a member stands, as decisions on plain numbers. Each is that of the
-//! rule in `cp_step`, and laws say that the rule does what is decided.
+//! rule in `cp_rules`, and laws say that the rule does what is decided.
 #![tactic(auto)]
 
 ghost use Rattle.cp_election.specs.Laws.{TicksStandAsDecided, PreVotesGoAsDecided, PreVoteRepliesGoAsDecided, VotesGoAsDecided, VoteRepliesGoAsDecided, BallotsAreWritten};

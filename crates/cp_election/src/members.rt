@@ -1,6 +1,6 @@
 //! The members of a configuration.
 ghost use Rattle.std.specs.Prelude.{◌≡◌, IfOk};
-ghost use Rattle.cp_step.specs.Persistent.{is_member, others};
+ghost use Rattle.cp_rules.specs.Persistent.{is_member, others};
 
 use cp_base::{Items, NoMemory};
 use std::alloc::Global;

@@ -1,5 +1,5 @@
 use super::*;
-use cp_step::{Ballot, LogEnd};
+use cp_rules::{Ballot, LogEnd};
 use std::test::*;
 
 /// The members of the worked rows with three of them.

@@ -2,3 +2,8 @@ pub mod Laws
 pub mod ListLaws
 pub mod FieldLaws
 pub mod WordLaws
+pub mod Found
+pub mod ItemLoop
+pub mod LineLoop
+pub mod Ends
+pub mod Digits

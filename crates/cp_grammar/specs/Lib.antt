@@ -3,3 +3,6 @@ pub mod Lists
 pub mod Fields
 pub mod Words
 pub mod Lawful
+pub mod Readers
+pub mod Common
+pub mod CommonLaws

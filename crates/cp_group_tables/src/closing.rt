@@ -89,7 +89,7 @@ impl GroupTables {
     fn concerned(&self, sessions: &[u64], ended: &[Waiter]) -> Result<Items<(Name, Kind)>, NoMemory>
         ensures { IfOk result (λ keys. keys ≡ concerned sessions.now (ended_by ending.SessionExpired ended.now) self.now) }
     {
-        let keys = cp_concerned::concerned(self.alloc, &self.semaphores, sessions, ended)?;
+        let keys = cp_semaphore::concerned(self.alloc, &self.semaphores, sessions, ended)?;
         Ok(keys)
     }
 

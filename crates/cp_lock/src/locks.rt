@@ -59,7 +59,7 @@ impl Locks {
         if !are_whole(rows.as_slice()) {
             return Ok(None);
         }
-        match cp_table::from_rows(alloc, rows)? {
+        match cp_rows::rising_rows(alloc, rows)? {
             Some(rows) => Ok(Some(Locks { alloc, rows })),
             None => Ok(None),
         }

@@ -34,7 +34,7 @@ pub fn write_row(rows: &mut BTreeMap<Name, LockRow>, name: &Name, row: LockRow)
     ensures rows { rows.new.entries ≡ put name_cmp rows.old.entries name.now row }
     ensures well { LocksWell rows.new.entries }
 {
-    cp_table::write_row(rows, name, row);
+    cp_rows::write_row(rows, name, row);
 }
 
 /// Whether the lock is held, or every number in its row is 0.

@@ -5,8 +5,8 @@ ghost use Rattle.cp_log.specs.Stores.{disk_of, is_spent};
 use super::*;
 use cp_base::GroupId;
 use cp_disk::{CrashDisk, Disk, MemoryDisk};
+use cp_grammar::read;
 use cp_parts::Part;
-use cp_spelling::read;
 use std::alloc::Global;
 use std::test::Fail;
 

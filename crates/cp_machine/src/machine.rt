@@ -11,7 +11,7 @@ ghost use Rattle.cp_machine.specs.Machines.{Stepped, AnswersFit, TimerFits, Rest
 use crate::timer::Timer;
 use cp_answers::Answer;
 use cp_base::{GroupId, Invocation, Items, NoMemory};
-use cp_spelling::ReadError;
+use cp_grammar::ReadError;
 use std::alloc::Global;
 
 /// What a group of members applies its entries to, one after another. Contracts see what a machine stands for, its view.

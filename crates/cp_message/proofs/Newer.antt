@@ -1,7 +1,7 @@
 -- What has a spelling in a version has one in the newest.
 use Rattle.std.proofs.Common.{ℕ, ◌≤◌, Bool, true, false, arith}
 use Rattle.std.specs.Prelude.{if◌then◌else◌, ◌==◌}
-use Rattle.cp_raft_message.proofs.Larger.{append_fits}
+use Rattle.cp_message.proofs.Larger.{append_fits}
 use Rattle.cp_message.specs.declared.request.Request.{Request}
 use Rattle.cp_message.specs.declared.request.Reply.{Reply}
 use Rattle.cp_message.specs.declared.body.Body.{Body}

@@ -5,8 +5,8 @@ use Rattle.cp_base.specs.declared.identifier.GroupId.{GroupId}
 use Rattle.cp_base.specs.declared.identifier.MemberNo.{MemberNo}
 use Rattle.cp_grammar.specs.Grammar.{Grammar, always, keyed, variant, case, no_case, ◌then◌}
 use Rattle.cp_grammar.specs.Fields.{byte, number}
-use Rattle.cp_spelling.specs.Common.{index, member_no, members}
-use Rattle.cp_raft_message.specs.Texts.{numbers_text}
+use Rattle.cp_grammar.specs.Common.{index, member_no, members}
+use Rattle.cp_message.specs.Texts.{numbers_text}
 use Rattle.cp_message.specs.declared.task.Task.{Task}
 use Rattle.cp_message.specs.declared.task.Task.TheVariants as tasks
 use Rattle.cp_message.specs.declared.task.TaskReply.{TaskReply}

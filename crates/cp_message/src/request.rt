@@ -1,12 +1,12 @@
 //! What clients ask of members, and what they are answered. Operations, answers and refusals stand as their bytes.
 ghost use Rattle.std.specs.Prelude.{◌≡◌, ◌++◌, OnOk};
-ghost use Rattle.cp_words.specs.Text.{Grew};
-ghost use Rattle.cp_spelling.specs.Readers.{Reads};
+ghost use Rattle.cp_base.specs.Text.{Grew};
+ghost use Rattle.cp_grammar.specs.Readers.{Reads};
 ghost use Rattle.cp_message.specs.Requests.{request_within, reply_within, request_text, reply_text};
 
+use crate::{append_numbers_text, take_copy};
 use cp_base::{ClientId, GroupId, Items, NoMemory, ThreadNo};
-use cp_raft_message::{append_numbers_text, take_copy};
-use cp_spelling::{Spelled, Stop, append_bytes, append_index, take_index};
+use cp_grammar::{Spelled, Stop, append_bytes, append_index, take_index};
 use std::alloc::Global;
 
 /// Asks for an operation.

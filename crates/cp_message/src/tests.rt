@@ -1,5 +1,5 @@
 use super::*;
-use cp_spelling::ReadError;
+use cp_grammar::ReadError;
 use std::test::*;
 
 fn fails_at(rt: &HostRuntime, bytes: &[u8], place: usize) -> bool {

@@ -8,7 +8,7 @@ use Rattle.cp_grammar.proofs.FieldLaws.{lawful, u32_below, u64_below, byte_lawfu
 use Rattle.cp_grammar.specs.Grammar.{◌then◌}
 use Rattle.cp_grammar.specs.Fields.{byte, number}
 use Rattle.std.specs.Int.{w64}
-use Rattle.cp_spelling.specs.CommonLaws.{index_lawful}
+use Rattle.cp_grammar.specs.CommonLaws.{index_lawful}
 use Rattle.cp_op_values.specs.Numbers.{permits}
 use Rattle.cp_op_values.specs.Values.{reference}
 use Rattle.cp_op_values.specs.Wishes.{wish_grammar}

@@ -1,11 +1,11 @@
 //! What may be done to a semaphore, with or without sessions. Without, the session is 0.
 ghost use Rattle.cp_object_ops.specs.SemOps.{sem_op};
-ghost use Rattle.cp_spelling.specs.Readers.{Reads};
+ghost use Rattle.cp_grammar.specs.Readers.{Reads};
 ghost use Rattle.std.specs.Prelude.{◌≡◌, ◌++◌, ◌^◌, OnOk};
 
 use cp_base::{NoMemory, Text, write_decimal};
+use cp_grammar::{Spelled, Stop, append_u8, append_u32, append_u64, take_u8, take_u32, take_u64};
 use cp_op_values::{MOST_PERMITS, Wish, append_numbered, append_wish};
-use cp_spelling::{Spelled, Stop, append_u8, append_u32, append_u64, take_u8, take_u32, take_u64};
 use std::alloc::Global;
 
 /// What may be done to a semaphore, with or without sessions. Without, the session is 0.

@@ -1,14 +1,14 @@
 //! Values that operations hold: references, keys and values of maps, lists of members.
 ghost use Rattle.std.specs.Prelude.{◌≡◌, ◌++◌, ◌∷◌, OnOk};
 ghost use Rattle.std.specs.Fmt.{decimal};
-ghost use Rattle.cp_words.specs.Text.{Grew};
+ghost use Rattle.cp_base.specs.Text.{Grew};
 ghost use Rattle.cp_grammar.specs.Fields.{byte, at_least};
-ghost use Rattle.cp_spelling.specs.Readers.{Reads};
+ghost use Rattle.cp_grammar.specs.Readers.{Reads};
 ghost use Rattle.cp_op_values.specs.Numbers.{group_size};
 ghost use Rattle.cp_op_values.specs.Values.{reference, key, value, hex_text, reference_text, members_text};
 
 use cp_base::{Items, NoMemory, write_decimal, write_hex};
-use cp_spelling::{Stop, append_bytes, append_u8, take_bytes, take_u8};
+use cp_grammar::{Stop, append_bytes, append_u8, take_bytes, take_u8};
 use std::alloc::Global;
 
 /// The most bytes that a reference has.

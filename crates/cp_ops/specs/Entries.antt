@@ -7,7 +7,7 @@ use Rattle.cp_base.specs.declared.identifier.Invocation.{Invocation}
 use Rattle.cp_grammar.specs.Grammar.{Grammar, always, keyed, variant, case, no_case, ◌then◌}
 use Rattle.cp_grammar.specs.Lists.{listed, each}
 use Rattle.cp_grammar.specs.Fields.{byte}
-use Rattle.cp_spelling.specs.Common.{index, group_id, member_no, invocation, members}
+use Rattle.cp_grammar.specs.Common.{index, group_id, member_no, invocation, members}
 use Rattle.cp_op_values.specs.Numbers.{any_u64}
 use Rattle.cp_op_values.specs.Values.{members_text}
 use Rattle.cp_ops.specs.EntryValues.{session_list, hundred, optional_invocation, invocation_text, for_text, pairs_text, waits_text}

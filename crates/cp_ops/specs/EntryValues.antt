@@ -6,7 +6,7 @@ use Rattle.cp_base.specs.declared.identifier.Invocation.{Invocation}
 use Rattle.cp_grammar.specs.Grammar.{Grammar}
 use Rattle.cp_grammar.specs.Fields.{number, at_least, optional}
 use Rattle.cp_grammar.specs.Lists.{listed, each}
-use Rattle.cp_spelling.specs.Common.{index_pair, invocation}
+use Rattle.cp_grammar.specs.Common.{index_pair, invocation}
 
 -- from 1 to 100 items
 abbrev pub hundred : Grammar ℕ ℕ

@@ -8,8 +8,8 @@ use Rattle.cp_grammar.proofs.FieldLaws.{lawful, byte_lawful, at_least_lawful}
 use Rattle.cp_grammar.specs.Grammar.{◌then◌}
 use Rattle.cp_grammar.specs.Fields.{byte, at_least}
 use Rattle.cp_grammar.specs.Lists.{listed, each}
-use Rattle.cp_spelling.specs.Common.{index, name, group_id, member_no, invocation, members}
-use Rattle.cp_spelling.specs.CommonLaws.{index_lawful, index_pair_lawful, name_lawful, group_lawful, member_lawful, invocation_lawful, members_lawful}
+use Rattle.cp_grammar.specs.Common.{index, name, group_id, member_no, invocation, members}
+use Rattle.cp_grammar.specs.CommonLaws.{index_lawful, index_pair_lawful, name_lawful, group_lawful, member_lawful, invocation_lawful, members_lawful}
 use Rattle.cp_op_values.specs.Numbers.{any_u64}
 use Rattle.cp_op_values.specs.Values.{kind_grammar}
 use Rattle.cp_ops.specs.EntryValues.{optional_invocation, hundred, session_list}

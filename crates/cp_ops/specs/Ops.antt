@@ -2,7 +2,7 @@
 use Rattle.std.specs.Prelude.{ℕ, List, Option, Some, None, codes, ◌++◌, ◌∷◌, ◌^◌}
 use Rattle.cp_grammar.specs.Grammar.{Grammar, keyed, variant, case, no_case, ◌then◌}
 use Rattle.cp_grammar.specs.Fields.{byte, at_least}
-use Rattle.cp_spelling.specs.Common.{name}
+use Rattle.cp_grammar.specs.Common.{name}
 use Rattle.cp_op_values.specs.Values.{kind_grammar, kind_text}
 use Rattle.cp_op_values.specs.declared.kind.Kind.{Kind}
 use Rattle.cp_object_ops.specs.declared.long_op.LongOp.{LongOp}

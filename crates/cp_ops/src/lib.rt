@@ -8,6 +8,7 @@ mod group_op;
 mod member_op;
 mod op;
 mod session_op;
+mod sizes;
 #[cfg(test)]
 mod tests;
 
@@ -22,3 +23,4 @@ pub use group_op::GroupOp;
 pub use member_op::MemberOp;
 pub use op::{Op, no_op_begins_another};
 pub use session_op::SessionOp;
+pub use sizes::{entries_are_short, older_entries_are_short};

@@ -2,7 +2,7 @@
 ghost use Rattle.cp_grammar.specs.Grammar.{whole};
 ghost use Rattle.cp_ops.specs.Laws.{op_newest_lawful};
 ghost use Rattle.cp_ops.specs.Ops.{op_within, op_grammar};
-ghost use Rattle.cp_spelling.specs.Readers.{Reads, Tells};
+ghost use Rattle.cp_grammar.specs.Readers.{Reads, Tells};
 ghost use Rattle.std.specs.Prelude.{◌≡◌, ◌++◌, List, ℕ, Ok, OnOk, OnErr, IfOk};
 
 use crate::change_op::ChangeOp;
@@ -10,9 +10,9 @@ use crate::group_op::GroupOp;
 use crate::member_op::MemberOp;
 use crate::session_op::SessionOp;
 use cp_base::{Name, NoMemory, Text};
+use cp_grammar::{MOST_INDEX, ReadError, Spelled, Stop, append_u8};
 use cp_object_ops::{LatchOp, LockOp, LongOp, MapOp, RefOp, SemOp};
 use cp_op_values::{Kind, MOST_REFERENCE, take_tag};
-use cp_spelling::{MOST_INDEX, ReadError, Spelled, Stop, append_u8};
 use std::alloc::Global;
 
 /// An operation, as it stands in an entry or a request.
@@ -276,7 +276,7 @@ impl Op {
         // What is spelled so is read, unless memory runs out.
         ensures only { (value : Op) → op_grammar.Fits value → bytes.now ≡ op_grammar.spelling value → Tells result (Ok value) }
     {
-        cp_spelling::read(alloc, bytes)
+        cp_grammar::read(alloc, bytes)
     }
 
     /// Appends the one spelling, or leaves `out`.
@@ -285,7 +285,7 @@ impl Op {
         ensures ok { OnOk result (out.new.items ≡ out.old.items ++ op_grammar.spelling self.now) }
         ensures err { OnErr result (out.new.items ≡ out.old.items) }
     {
-        cp_spelling::write(self, out)
+        cp_grammar::write(self, out)
     }
 }
 
@@ -293,5 +293,5 @@ impl Op {
 pub fn no_op_begins_another()
     ensures { (x y : Op) (a b : List ℕ) → op_grammar.Fits x → op_grammar.Fits y → op_grammar.spelling x ++ a ≡ op_grammar.spelling y ++ b → (x ≡ y) × (a ≡ b) }
 {
-    cp_spelling::no_spelling_begins_another::<Op>()
+    cp_grammar::no_spelling_begins_another::<Op>()
 }

@@ -1,6 +1,6 @@
 use super::*;
 use cp_base::Text;
-use cp_spelling::ReadError;
+use cp_grammar::ReadError;
 use std::test::*;
 
 /// The operation that adds 5 to the long `a`, as its entry's first event is in a replay: client 1, thread 1, number 1.

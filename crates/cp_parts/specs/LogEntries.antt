@@ -2,7 +2,7 @@
 use Rattle.std.specs.Prelude.{ℕ}
 use Rattle.cp_grammar.specs.Grammar.{Grammar, ◌then◌, mapped}
 use Rattle.cp_grammar.specs.Fields.{bytes}
-use Rattle.cp_spelling.specs.Common.{index}
+use Rattle.cp_grammar.specs.Common.{index}
 use Rattle.cp_parts.specs.declared.log_entry.LogEntry.{LogEntry}
 
 -- the term, and at most 8,192 bytes

@@ -5,7 +5,7 @@ use Rattle.cp_base.specs.declared.identifier.GroupId.{GroupId}
 use Rattle.cp_grammar.specs.Grammar.{Grammar, always, keyed, variant, case, no_case, ◌then◌}
 use Rattle.cp_grammar.specs.Fields.{byte, marked, number, at_least, bytes}
 use Rattle.cp_grammar.specs.Lists.{listed, each}
-use Rattle.cp_spelling.specs.Common.{index, group_id, members}
+use Rattle.cp_grammar.specs.Common.{index, group_id, members}
 use Rattle.cp_parts.specs.declared.log_entry.LogEntry.{LogEntry}
 use Rattle.cp_parts.specs.LogEntries.{log_entry}
 use Rattle.cp_parts.specs.declared.part.Part.{Part}

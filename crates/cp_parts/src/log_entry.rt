@@ -3,7 +3,7 @@ ghost use Rattle.cp_grammar.specs.Lists.{each};
 ghost use Rattle.cp_parts.specs.LogEntries.{log_entry};
 
 use cp_base::{Items, NoMemory};
-use cp_spelling::{Item, Stop, append_bytes, append_index, take_bytes, take_index};
+use cp_grammar::{Item, Stop, append_bytes, append_index, take_bytes, take_index};
 use std::alloc::Global;
 
 /// The most bytes of an entry.

@@ -1,7 +1,7 @@
 //! Bytes are written by hand from the format.
 use super::*;
 use cp_base::{GroupId, Items};
-use cp_spelling::{ReadError, read, write};
+use cp_grammar::{ReadError, read, write};
 use std::alloc::Global;
 use std::test::*;
 

@@ -4,14 +4,14 @@ use Rattle.std.specs.Prelude.{IfSome, IsSome}
 use Rattle.std.specs.Option.{ForSome}
 use Rattle.std.proofs.lemmas.Bool.{cases_Bool}
 use Rattle.cp_message.specs.declared.message.Message.{Message}
-use Rattle.cp_store_state.specs.Persistent.{PersistentState, last}
-use Rattle.cp_step.specs.Limits.{most_index}
-use Rattle.cp_step.specs.Persistent.{members, after_part}
-use Rattle.cp_step.specs.Volatile.{VolatileState, no_reads}
-use Rattle.cp_step.specs.Local.{Event, LocalStep, is_leader}
-use Rattle.cp_step.specs.Steps.{rule, step}
-use Rattle.cp_step_ranges.specs.Laws.{MayStep}
-use Rattle.cp_step.specs.Confirming.{is_ready, settles}
+use Rattle.cp_log_rules.specs.Persistent.{PersistentState, last}
+use Rattle.cp_rules.specs.Limits.{most_index}
+use Rattle.cp_rules.specs.Persistent.{members, after_part}
+use Rattle.cp_rules.specs.Volatile.{VolatileState, no_reads}
+use Rattle.cp_rules.specs.Local.{Event, LocalStep, is_leader}
+use Rattle.cp_rules.specs.Steps.{rule, step}
+use Rattle.cp_rules_ranges.specs.Laws.{MayStep}
+use Rattle.cp_rules.specs.Confirming.{is_ready, settles}
 use Rattle.cp_raft_state.specs.declared.did.Did.{Did}
 use Rattle.cp_raft_state.specs.declared.seat.Seat.{Seat}
 use Rattle.cp_raft_state.specs.Doing.{Does}

@@ -5,18 +5,18 @@ use Rattle.cp_base.specs.declared.identifier.GroupId.{GroupId}
 use Rattle.cp_log.specs.Changes.{is_state}
 use Rattle.cp_message.specs.declared.message.Message.{Message}
 use Rattle.cp_parts.specs.declared.part.Part as journal
-use Rattle.cp_store_state.specs.Persistent.{PersistentState}
-use Rattle.cp_store_state.specs.Durable.{DurableState, group_at, group_in, or_nobody}
-use Rattle.cp_step.specs.Parts.{part_of}
-use Rattle.cp_step.specs.Persistent.{Part, after_part}
-use Rattle.cp_step.specs.Volatile.{VolatileState}
-use Rattle.cp_step.specs.Local.{Event, LocalStep, is_leader}
-use Rattle.cp_step.specs.Steps.{step}
-use Rattle.cp_step.proofs.PartLaws.{parts_change_their_group}
-use Rattle.cp_step_ranges.specs.Laws as ranges
-use Rattle.cp_step_ranges.specs.Laws.{MayStep}
-use Rattle.cp_step_ranges.proofs.Steps.{steps_go_on}
-use Rattle.cp_step_ranges.proofs.Laws.{parts_are_taken}
+use Rattle.cp_log_rules.specs.Persistent.{PersistentState}
+use Rattle.cp_log_rules.specs.Durable.{DurableState, group_at, group_in, or_nobody}
+use Rattle.cp_rules.specs.Parts.{part_of}
+use Rattle.cp_rules.specs.Persistent.{Part, after_part}
+use Rattle.cp_rules.specs.Volatile.{VolatileState}
+use Rattle.cp_rules.specs.Local.{Event, LocalStep, is_leader}
+use Rattle.cp_rules.specs.Steps.{step}
+use Rattle.cp_rules.proofs.PartLaws.{parts_change_their_group}
+use Rattle.cp_rules_ranges.specs.Laws as ranges
+use Rattle.cp_rules_ranges.specs.Laws.{MayStep}
+use Rattle.cp_rules_ranges.proofs.Steps.{steps_go_on}
+use Rattle.cp_rules_ranges.proofs.Laws.{parts_are_taken}
 use Rattle.cp_raft_state.specs.declared.did.Did.{Did}
 use Rattle.cp_raft_state.specs.declared.seat.Seat.{Seat}
 use Rattle.cp_raft_state.specs.Messages.{messages_of}

@@ -1,7 +1,7 @@
 -- What comes to a member, as its rules take it.
 use Rattle.std.specs.Prelude.{Option, Some}
 use Rattle.std.specs.Option.{option_map}
-use Rattle.cp_step.specs.Local.{Event, Tick, Got, Propose, ChangeMembers, Read}
+use Rattle.cp_rules.specs.Local.{Event, Tick, Got, Propose, ChangeMembers, Read}
 use Rattle.cp_raft_state.specs.Said.{body_in}
 use Rattle.cp_raft.specs.declared.event.RaftEvent.{RaftEvent}
 use Rattle.cp_raft.specs.declared.event.RaftEvent.TheVariants as event

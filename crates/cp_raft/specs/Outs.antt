@@ -1,8 +1,8 @@
 -- What a step hands to its caller.
 use Rattle.std.specs.Prelude.{◌≡◌, Bool, not, ◌&&◌, is_some, Option, Some, None, false, true}
-use Rattle.cp_step.specs.Persistent.{Part, StatePart, AppendPart, SnapshotPart}
-use Rattle.cp_step.specs.Local.{Event, Tick, Got, Propose, ChangeMembers, Read, LocalStep, is_leader}
-use Rattle.cp_step.specs.Volatile.{VolatileState}
+use Rattle.cp_rules.specs.Persistent.{Part, StatePart, AppendPart, SnapshotPart}
+use Rattle.cp_rules.specs.Local.{Event, Tick, Got, Propose, ChangeMembers, Read, LocalStep, is_leader}
+use Rattle.cp_rules.specs.Volatile.{VolatileState}
 use Rattle.cp_raft_state.specs.declared.seat.Seat.{Seat}
 use Rattle.cp_raft_state.specs.Messages.{messages_of}
 use Rattle.cp_raft.specs.declared.out.RaftOut.{RaftOut}

@@ -2,7 +2,7 @@
 
 use cp_base::{Invocation, Items};
 use cp_message::Message;
-use cp_step::Change;
+use cp_rules::Change;
 
 /// What comes to a member of a group.
 #[derive(Debug, Drop)]

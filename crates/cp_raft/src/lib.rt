@@ -1,4 +1,4 @@
-//! One member of one Raft group: each step does what its definition in `cp_step` says, over the member's store.
+//! One member of one Raft group: each step does what its definition in `cp_rules` says, over the member's store.
 #![tactic(auto)]
 
 mod coming;

@@ -4,8 +4,8 @@ use super::*;
 use cp_answers::Refusal;
 use cp_base::GroupId;
 use cp_election::new_peer;
-use cp_raft_message::AppendReply;
-use cp_step::{Peer, Role};
+use cp_message::AppendReply;
+use cp_rules::{Peer, Role};
 use std::test::*;
 
 fn reply(accepted: bool, index: u64) -> AppendReply

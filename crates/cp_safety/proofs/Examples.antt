@@ -5,12 +5,12 @@ use Rattle.std.proofs.lemmas.Option.{same_Some, slice_get_within}
 use Rattle.cp_grammar.specs.Grammar.{whole}
 use Rattle.cp_grammar.specs.Fields.{mark_reading, number_reading}
 use Rattle.cp_grammar.specs.Lists.{items_reading}
-use Rattle.cp_spelling.specs.Common.{members, member_after}
+use Rattle.cp_grammar.specs.Common.{members, member_after}
 use Rattle.cp_parts.specs.Configs.{members_entry, config_in}
 use Rattle.cp_parts.specs.declared.log_entry.LogEntry.{LogEntry}
-use Rattle.cp_rules.specs.Entries.{members_in}
-use Rattle.cp_rules.specs.Clusters.{Member, Message, Vote, Voted, Append, Appended, Snapshot, Done, Other, Cluster, Step, cluster_after}
-use Rattle.cp_rules.specs.Facts.{before, KnowsTerm, LogEndsAt, KeepsLog, EntriesCreated, FollowsAbove, FollowsBelow, TakesSnapshot, InstallsSnapshot, SendsAppend, SendsVote, GivesVote, Acknowledges, LeaderCommits, FollowerCommits, OtherFacts, VotesGiven, LeadersElected, WinsElection, ChangesAreSingle, MeetsFacts}
+use Rattle.cp_agreement_facts.specs.Entries.{members_in}
+use Rattle.cp_agreement_facts.specs.Clusters.{Member, Message, Vote, Voted, Append, Appended, Snapshot, Done, Other, Cluster, Step, cluster_after}
+use Rattle.cp_agreement_facts.specs.Facts.{before, KnowsTerm, LogEndsAt, KeepsLog, EntriesCreated, FollowsAbove, FollowsBelow, TakesSnapshot, InstallsSnapshot, SendsAppend, SendsVote, GivesVote, Acknowledges, LeaderCommits, FollowerCommits, OtherFacts, VotesGiven, LeadersElected, WinsElection, ChangesAreSingle, MeetsFacts}
 use Rattle.cp_safety.specs.Examples.{three, alone, entry, adds_two, adds_three, member_of, asks, votes, wins, acknowledges, commits, second_asks, says_yes, says_yes_again, first_wins, second_wins_too, leads_alone, adds_second, second_follows, commits_second, adds_third, second_follows_again, second_stands, third_votes, second_wins, elects_and_commits, votes_twice, stands_late, MeetsAllButVotes, MeetsWithAnyLog, LeadersElectedWithAnyLog}
 
 -- the two members of a quorum

@@ -17,7 +17,7 @@ use Rattle.cp_grammar.proofs.WordLaws.{lawful_text, token_lawful, exact_bytes}
 use Rattle.cp_events.specs.declared.event.Event.TheVariants as event
 use Rattle.cp_events.specs.declared.schedule.Line.{Line}
 use Rattle.cp_events.specs.declared.schedule.Line.TheVariants as line
-use Rattle.cp_value_words.specs.ValueLaws.{member_line_lawful, member_space_lawful}
+use Rattle.cp_call_words.specs.ValueLaws.{member_line_lawful, member_space_lawful}
 use Rattle.cp_call_words.specs.declared.context.Context.{Context}
 use Rattle.cp_call_words.specs.CallLaws.{user_op_lawful}
 use Rattle.cp_schedule.specs.Fronts.{behind, ended_number, ended_number_reading}

@@ -9,8 +9,8 @@ use Rattle.cp_grammar.proofs.WordLaws.{lawful_text}
 use Rattle.cp_events.specs.declared.plan.HoldLimit.{HoldLimit}
 use Rattle.cp_events.specs.declared.plan.Groups.{Groups}
 use Rattle.cp_events.specs.declared.plan.Reads.{Reads}
-use Rattle.cp_value_words.specs.Values.{between_word}
-use Rattle.cp_value_words.specs.ValueLaws.{name_word_lawful}
+use Rattle.cp_call_words.specs.Values.{between_word}
+use Rattle.cp_call_words.specs.ValueLaws.{name_word_lawful}
 use Rattle.cp_schedule.specs.Fronts.{behind}
 use Rattle.cp_schedule.specs.Header.{opening, size_line, clients_line, snapshot_line, groups_words, which_groups, may_have, groups_line, may_follow, one_limit, limit_line, limit_lines, reads_words, which_reads, reads_line, header_behind, header, plan_of, lines_of}
 use Rattle.cp_schedule.proofs.FrontLaws.{IsLawfulBefore, Avoids, before_all, after_lawful, optional_lawful, seq_before, mapped_before, lines_lawful, lines_avoid, optional_avoids}

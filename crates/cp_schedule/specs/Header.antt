@@ -1,11 +1,11 @@
 -- The header of a schedule, line by line.
 use Rattle.std.specs.Prelude.{ℕ, ◌-◌, ◌^◌, ◌==◌, ◌&&◌, ◌||◌, not, max, Bool, true, nat_le, nat_lt, List, length, Option, bytes_eq, codes}
 use Rattle.std.specs.List.{list_any}
-use Rattle.cp_words.specs.Text.{line}
+use Rattle.cp_base.specs.Text.{line}
 use Rattle.cp_grammar.specs.Grammar.{Grammar, always, one_field, checked, seq, ◌then◌, keyed, mapped, no_case}
 use Rattle.cp_grammar.specs.Words.{Token, token, keyword, number_word}
 use Rattle.cp_grammar.specs.Lists.{until}
-use Rattle.cp_value_words.specs.Values.{between_word, name_word}
+use Rattle.cp_call_words.specs.Values.{between_word, name_word}
 use Rattle.cp_events.specs.declared.plan.Plan.{Plan}
 use Rattle.cp_events.specs.declared.plan.HoldLimit.{HoldLimit}
 use Rattle.cp_events.specs.declared.plan.Groups.{Groups}

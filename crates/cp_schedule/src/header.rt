@@ -1,14 +1,14 @@
 //! Reads the header, line by line.
 ghost use Rattle.std.specs.Prelude.{◌≡◌, ◌≤◌, IfOk};
 ghost use Rattle.cp_grammar.specs.Lists.{until};
-ghost use Rattle.cp_spelling.specs.Readers.{Reads, Gives};
+ghost use Rattle.cp_grammar.specs.Readers.{Reads, Gives};
 ghost use Rattle.cp_schedule.specs.Header.{opening, size_line, clients_line, snapshot_line, groups_words, which_groups, groups_line, is_limited, may_follow, limit_line, limit_lines, reads_words, which_reads, reads_line, header_behind, header, is_size};
 
 use crate::fronts::behind;
 use cp_base::{Items, Name};
+use cp_call_words::{take_between_word, take_name_word};
 use cp_events::{Groups, HoldLimit, Plan};
-use cp_spelling::{LINE, SPACE, Stop, is_token, take_number_word, take_token};
-use cp_value_words::{take_between_word, take_name_word};
+use cp_grammar::{LINE, SPACE, Stop, is_token, take_number_word, take_token};
 use std::alloc::Global;
 
 const MOST_MEMBERS: u64 = 9;

@@ -2,7 +2,7 @@
 ghost use Rattle.std.specs.Prelude.{◌≡◌, ◌≤◌, ◌<◌, ◌^◌, ◌==◌, length, count_by, Ok, IfOk};
 ghost use Rattle.cp_grammar.specs.Grammar.{whole};
 ghost use Rattle.cp_grammar.specs.Words.{line_of};
-ghost use Rattle.cp_spelling.specs.Readers.{Reads, Tells};
+ghost use Rattle.cp_grammar.specs.Readers.{Reads, Tells};
 ghost use Rattle.cp_events.specs.declared.schedule.Schedule.{Schedule as Written};
 ghost use Rattle.cp_schedule.specs.Header.{opening};
 ghost use Rattle.cp_schedule.specs.Schedules.{schedule, context_of, is_managed};
@@ -12,7 +12,7 @@ use crate::event::take_event_lines;
 use crate::header::{take_header, take_opening};
 use cp_call_words::Context;
 use cp_events::{Groups, Plan, Schedule};
-use cp_spelling::{LINE, ReadError, Stop};
+use cp_grammar::{LINE, ReadError, Stop};
 use std::alloc::Global;
 use thiserror::Error;
 

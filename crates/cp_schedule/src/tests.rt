@@ -3,8 +3,8 @@ use crate::ScheduleError::{BadSchedule, NotBuilt};
 use crate::header::take_header;
 use cp_base::{ClientNo, Items, MemberNo, Name, ThreadNo};
 use cp_events::{Event, Groups, HoldLimit, Line, LongCall, Object, Plan, Reads, Schedule, UserOp};
+use cp_grammar::Stop;
 use cp_object_ops::LongOp;
-use cp_spelling::Stop;
 use std::test::*;
 
 const OPENING: &str = "cp 1\nmembers 0\nsize 1\nclients 1\n";

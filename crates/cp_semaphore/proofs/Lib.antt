@@ -10,3 +10,5 @@ pub mod Backing
 pub mod Rooms
 pub mod Closings
 pub mod Destroyed
+pub mod Named
+pub mod ConcernedTogether

@@ -3,7 +3,11 @@
 
 mod amounts;
 mod closing;
+mod held;
 mod holdings;
+mod keys;
+mod left;
+mod names;
 mod outcome;
 mod rows;
 mod semaphores;
@@ -13,5 +17,6 @@ mod tables;
 #[cfg(test)]
 mod tests;
 
+pub use keys::{concerned, left_by};
 pub use outcome::SemOutcome;
 pub use semaphores::{Semaphores, set_holding};

@@ -12,8 +12,8 @@ use Rattle.cp_group_state.specs.Rows.{find, put}
 use Rattle.cp_group_state.specs.Sessions.{is_open_for}
 use Rattle.cp_group_state.specs.Invariants.{OneSession}
 use Rattle.cp_group_state.proofs.Keyed.{number_key}
-use Rattle.cp_table.specs.Behind.{is_above}
-use Rattle.cp_table.proofs.Ordered.{put_last, above_front}
+use Rattle.cp_rows.specs.Behind.{is_above}
+use Rattle.cp_rows.proofs.Ordered.{put_last, above_front}
 use Rattle.cp_session.specs.Index.{IsIndexed, Sets, client_cmp}
 use Rattle.cp_session.specs.Tables.{IsTable}
 use Rattle.cp_session.proofs.Indexed.{row_where, open_where, put_sets}

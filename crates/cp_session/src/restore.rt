@@ -6,7 +6,7 @@ ghost use Rattle.cp_session.specs.Tables.{IsPushed, MakesMaps};
 use crate::index::{name, number_of, unname};
 use cp_base::{ClientId, Items, NoMemory};
 use cp_group_state::SessionRow;
-use cp_table::PushError;
+use cp_rows::PushError;
 use std::alloc::Global;
 use std::collections::BTreeMap;
 
@@ -35,7 +35,7 @@ pub fn push(
         None => {}
     }
     name(numbers, client, number)?;
-    match cp_table::push_row(rows, number, row) {
+    match cp_rows::push_row(rows, number, row) {
         Ok(()) => Ok(Pushed::Behind),
         Err(PushError::OutOfOrder) => {
             unname(numbers, &client);

@@ -1,12 +1,12 @@
 //! What a follower joins of the chunks of a snapshot.
 ghost use Rattle.std.specs.Prelude.{◌≡◌, ◌+◌, ◌≤◌, ◌-◌, ◌^◌, ◌++◌, [], length, drop, vec_len, Some, None, Ok, option_map, IfOk, OnOk, OnErr};
-ghost use Rattle.cp_step.specs.Snapshots.{received_of};
+ghost use Rattle.cp_rules.specs.Snapshots.{received_of};
 ghost use Rattle.cp_snapshot.specs.declared.assembler.Progress.TheVariants as progress;
 ghost use Rattle.cp_snapshot.specs.Decisions.{joined_to, progress_at, told, received_with, received_after, whole_in};
 
 use crate::joining::{Join, how_joined};
 use cp_base::NoMemory;
-use cp_raft_message::Chunk;
+use cp_message::Chunk;
 use std::alloc::Global;
 
 /// The most bytes that a snapshot may have: 2^26 - 64.

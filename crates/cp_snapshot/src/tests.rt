@@ -1,7 +1,7 @@
 use super::*;
 use cp_base::{GroupId, Items};
-use cp_raft_message::Chunk;
-use cp_step::Peer;
+use cp_message::Chunk;
+use cp_rules::Peer;
 use std::alloc::Global;
 use std::test::*;
 

@@ -1,7 +1,7 @@
 use super::*;
 use cp_base::{ClientId, ClientNo};
+use cp_grammar::ReadError;
 use cp_op_values::Kind;
-use cp_spelling::ReadError;
 use std::test::*;
 
 /// The third version, of a group that stands.

@@ -1,14 +1,13 @@
 //! What may come to a member.
 ghost use Rattle.std.specs.Prelude.{true, None, ◌≡◌, ◌≤◌, ◌-◌, ◌^◌, length, map};
-ghost use Rattle.cp_rules.specs.Entries.{members_in};
-ghost use Rattle.cp_step.specs.Limits.{most_index};
-ghost use Rattle.cp_step_ranges.specs.Ranges.{AreInRange, AppendIsInRange, ChunkIsInRange, EndIsInRange, IsMember, most_entry};
+ghost use Rattle.cp_agreement_facts.specs.Entries.{members_in};
+ghost use Rattle.cp_rules.specs.Limits.{most_index};
+ghost use Rattle.cp_rules_ranges.specs.Ranges.{AreInRange, AppendIsInRange, ChunkIsInRange, EndIsInRange, IsMember, most_entry};
 ghost use Rattle.cp_raft_state.specs.Said.{body_in, end_in, entry_in};
 ghost use Rattle.cp_three_members.specs.Coming.{IsSaid};
 
-use cp_message::{Body, Message};
-use cp_raft_message::{Append, Chunk, LogEntry, VoteRequest};
-use cp_spelling::MOST_INDEX;
+use cp_grammar::MOST_INDEX;
+use cp_message::{Append, Body, Chunk, LogEntry, Message, VoteRequest};
 
 /// Whether a number may be a term, an index or a round.
 fn is_index(number: u64) -> bool

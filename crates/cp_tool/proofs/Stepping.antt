@@ -8,9 +8,9 @@ use Rattle.cp_events.specs.declared.effects.Opened.{Opened}
 use Rattle.cp_events.specs.declared.effects.Return.{Return}
 use Rattle.cp_events.specs.declared.event.Event.{Event}
 use Rattle.cp_events.specs.declared.plan.Plan.{Plan}
-use Rattle.cp_run.specs.Rows.{Committed}
-use Rattle.cp_run.specs.World as rules
-use Rattle.cp_run.proofs.Settled.{settled}
+use Rattle.cp_world_rules.specs.Rows.{Committed}
+use Rattle.cp_world_rules.specs.World as rules
+use Rattle.cp_world_rules.proofs.Settled.{settled}
 use Rattle.cp_transcript.specs.Telling.{Tells}
 use Rattle.cp_transcript.specs.declared.transcript.Transcript.{Transcript}
 use Rattle.cp_world.specs.Following as world

@@ -4,8 +4,8 @@ use Rattle.cp_events.specs.declared.event.Event.{Event}
 use Rattle.cp_events.specs.declared.plan.Plan.{Plan}
 use Rattle.cp_events.specs.declared.schedule.Line.{Line}
 use Rattle.cp_events.specs.declared.schedule.Line.TheVariants as line
-use Rattle.cp_run.specs.Execution.{events_of, executed}
-use Rattle.cp_run.specs.World.{new_world, world_after}
+use Rattle.cp_world_rules.specs.Execution.{events_of, executed}
+use Rattle.cp_world_rules.specs.World.{new_world, world_after}
 use Rattle.cp_schedule.specs.Reading.{line_of_event}
 use Rattle.cp_transcript.specs.Transcripts.{transcript_of}
 use Rattle.cp_tool.specs.declared.status.LimitName.{LimitName}

@@ -1,7 +1,7 @@
 //! The top call.
 ghost use Rattle.std.specs.Prelude.{◌≡◌, ◌↔◌, ◌≤◌, ◌⊎◌, ℕ, codes, length, map, string_bytes, IfSome, IsTrue, Err};
 ghost use Rattle.std.specs.Io.KnownBytes.{IsAtEnd};
-ghost use Rattle.cp_words.specs.Faults.{Exceeds, Rose};
+ghost use Rattle.cp_base.specs.Faults.{Exceeds, Rose};
 ghost use Rattle.cp_schedule.specs.Reading.{BadLine, NotBuilt, schedule_of};
 ghost use Rattle.cp_tool.specs.declared.status.LimitName.{LimitName};
 ghost use Rattle.cp_tool.specs.Runs.{IsAfterReading, IsBeforeWrites, IsReplay, Limits, Replays, ReplaysFront};

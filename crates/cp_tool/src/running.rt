@@ -3,8 +3,8 @@ ghost use Rattle.std.specs.Prelude.{◌≡◌, ◌≤◌, ◌<◌, ◌+◌, ◌^
 ghost use Rattle.cp_events.specs.declared.effects.Effects.{Effects};
 ghost use Rattle.cp_events.specs.declared.event.Event.{Event};
 ghost use Rattle.cp_events.specs.declared.plan.Plan.{Plan};
-ghost use Rattle.cp_run.specs.Execution.{events_of};
-ghost use Rattle.cp_run.specs.Rows.{Committed};
+ghost use Rattle.cp_world_rules.specs.Execution.{events_of};
+ghost use Rattle.cp_world_rules.specs.Rows.{Committed};
 ghost use Rattle.cp_transcript.specs.Telling.{Tells, committed_at};
 ghost use Rattle.cp_world.specs.Following.{effects_of};
 ghost use Rattle.cp_tool.specs.Limits.{KeepsLimits, beyond, text_of};

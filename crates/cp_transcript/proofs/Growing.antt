@@ -4,7 +4,7 @@ use Rattle.std.specs.List.{flat_map}
 use Rattle.std.proofs.lemmas.List.{map-append, take_all, take_more}
 use Rattle.cp_ops.specs.declared.entry.Entry.{Entry}
 use Rattle.cp_events.specs.declared.effects.Effects.{Effects}
-use Rattle.cp_run.specs.Rows.{Committed}
+use Rattle.cp_world_rules.specs.Rows.{Committed}
 use Rattle.cp_transcript.specs.Effects.{effects_lines}
 use Rattle.cp_transcript.specs.Histories.{committed_line, committed_lines}
 use Rattle.cp_transcript.specs.Transcripts.{opening}

@@ -4,8 +4,8 @@ use Rattle.std.specs.List.{flat_map}
 use Rattle.std.proofs.lemmas.Fmt.{decimal_digit}
 use Rattle.std.proofs.lemmas.Bool.{ne_eqb}
 use Rattle.cp_events.specs.declared.effects.Effects.{Effects}
-use Rattle.cp_run.specs.Rows.{Committed}
-use Rattle.cp_run.specs.Execution.{histories_of}
+use Rattle.cp_world_rules.specs.Rows.{Committed}
+use Rattle.cp_world_rules.specs.Execution.{histories_of}
 use Rattle.cp_transcript.specs.Histories.{committed_lines, history_lines}
 use Rattle.cp_transcript.specs.Transcripts.{lines_of}
 use Rattle.cp_transcript.specs.Effects.{effects_lines}

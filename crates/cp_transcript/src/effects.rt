@@ -2,7 +2,7 @@
 ghost use Rattle.std.specs.Prelude.{◌≡◌, ◌++◌, ◌∷◌, OnErr, OnOk};
 ghost use Rattle.std.specs.Fmt.{decimal};
 ghost use Rattle.std.specs.List.{flat_map};
-ghost use Rattle.cp_words.specs.Text.{Grew};
+ghost use Rattle.cp_base.specs.Text.{Grew};
 ghost use Rattle.cp_transcript.specs.Effects.{cause_text, effects_lines, ending_text, event_line, ignored_lines, opened_line, return_line};
 
 use cp_base::{ClientNo, NoMemory, Text, write_decimal};

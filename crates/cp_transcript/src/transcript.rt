@@ -1,7 +1,7 @@
 //! A transcript that grows event by event.
 ghost use Rattle.std.specs.Prelude.{◌≡◌, ◌+◌, ◌<◌, ◌^◌, ◌++◌, ◌∷◌, List, [], length, IfOk, OnOk};
 ghost use Rattle.cp_events.specs.declared.effects.Effects.{Effects};
-ghost use Rattle.cp_run.specs.Rows.{Committed};
+ghost use Rattle.cp_world_rules.specs.Rows.{Committed};
 ghost use Rattle.cp_transcript.specs.Telling.{Tells, committed_at, history_text};
 ghost use Rattle.cp_transcript.specs.Transcripts.{lines_of};
 

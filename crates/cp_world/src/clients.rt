@@ -10,7 +10,7 @@ ghost use Rattle.cp_client.specs.Steps.{Gives};
 ghost use Rattle.cp_client_rules.specs.Answers.{answer_client};
 ghost use Rattle.cp_client_rules.specs.Calls.{call_client};
 ghost use Rattle.cp_client_rules.specs.Ticks.{tick_client};
-ghost use Rattle.cp_run.specs.World.{client_of, or_new};
+ghost use Rattle.cp_world_rules.specs.World.{client_of, or_new};
 ghost use Rattle.cp_world.specs.Given.{GivesAt};
 
 use crate::copying::copy_of;
@@ -18,7 +18,7 @@ use cp_answers::Answer;
 use cp_base::{ClientId, ClientNo, Invocation, NoMemory, ThreadNo};
 use cp_client::{Client, ClientOut};
 use cp_events::{Plan, UserOp};
-use cp_table::put_row;
+use cp_rows::put_row;
 use std::alloc::Global;
 use std::collections::BTreeMap;
 

@@ -1,7 +1,7 @@
 //! What a client asks enters the history at once.
 ghost use Rattle.std.specs.Prelude.{◌≡◌, ◌<◌, ◌+◌, ◌^◌, ◌++◌, ℕ, List, map, OnOk};
 ghost use Rattle.cp_client_rules.specs.Clients.{Did};
-ghost use Rattle.cp_run.specs.World.{commit, commit_all, does};
+ghost use Rattle.cp_world_rules.specs.World.{commit, commit_all, does};
 ghost use Rattle.cp_world.specs.Following.{Leads, LeadsFrom};
 ghost use Rattle.cp_world.specs.Given.{IsGiven};
 ghost use Rattle.cp_world.specs.Rooms.{CanCount, CanCountDone};

@@ -3,7 +3,7 @@ ghost use Rattle.std.specs.Prelude.{◌≡◌, ◌≤◌, ◌+◌, ◌^◌, OnOk
 ghost use Rattle.std.specs.Ordering.{nat_cmp};
 ghost use Rattle.cp_events.specs.declared.event.Event.TheVariants as event;
 ghost use Rattle.cp_group_state.specs.Rows.{find};
-ghost use Rattle.cp_run.specs.World.{World as Rules, begin, calls_now, is_client, moves_if_room, or_new};
+ghost use Rattle.cp_world_rules.specs.World.{World as Rules, begin, calls_now, is_client, moves_if_room, or_new};
 ghost use Rattle.cp_world.specs.Steps.{calls};
 ghost use Rattle.cp_world.specs.Following.{Follows, IsStep, Leads};
 ghost use Rattle.cp_world.specs.Rooms.{HasRoomFor, IsReached};

@@ -1,6 +1,6 @@
 //! Answers are handed on to their clients.
 ghost use Rattle.std.specs.Prelude.{◌≡◌, [], OnOk};
-ghost use Rattle.cp_run.specs.World.{hand_all, hand_on, handed};
+ghost use Rattle.cp_world_rules.specs.World.{hand_all, hand_on, handed};
 ghost use Rattle.cp_world.specs.Following.{Leads};
 ghost use Rattle.cp_world.specs.Rooms.{HasRoomFor};
 ghost use Rattle.cp_world.specs.Steps.{hand_to};

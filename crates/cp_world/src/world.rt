@@ -1,6 +1,6 @@
 //! The world of a schedule without members.
 ghost use Rattle.std.specs.Prelude.{◌≡◌, IfOk, OnOk};
-ghost use Rattle.cp_run.specs.World.{World as Rules, new_world};
+ghost use Rattle.cp_world_rules.specs.World.{World as Rules, new_world};
 ghost use Rattle.cp_world.specs.Following.{Follows, IsStep};
 ghost use Rattle.cp_world.specs.Rooms.{IsReached};
 

@@ -1,5 +1,5 @@
 use Rattle.std.proofs.Common.{◌≡◌, ◌++◌, length}
-use Rattle.cp_step.specs.Persistent.{others}
+use Rattle.cp_rules.specs.Persistent.{others}
 use Rattle.cp_election.proofs.members.others.Given as goal
 
 abbrev pub invariant-loop-rest : goal.invariant-loop-rest

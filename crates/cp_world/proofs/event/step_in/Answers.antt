@@ -1,5 +1,5 @@
 use Rattle.std.proofs.Common.{sym, subst, arith}
-use Rattle.cp_run.specs.World.{begin}
+use Rattle.cp_world_rules.specs.World.{begin}
 use Rattle.cp_world.specs.declared.turn.Turn.{Turn}
 use Rattle.cp_world.specs.Following.{Leads}
 use Rattle.cp_world.specs.Rooms.{HasRoomFor}

@@ -1,6 +1,6 @@
 use Rattle.std.proofs.Common.{◌≡◌, ◌+◌, ◌++◌, List, take}
 use Rattle.cp_events.specs.declared.effects.Effects.{Effects}
-use Rattle.cp_run.specs.Rows.{Committed}
+use Rattle.cp_world_rules.specs.Rows.{Committed}
 use Rattle.cp_transcript.specs.Telling.{Tells, committed_at}
 use Rattle.cp_transcript.proofs.transcript.Transcript.add_all_committed.Given as goal
 
