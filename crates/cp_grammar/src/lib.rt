@@ -1,4 +1,6 @@
-//! Grammars put together from smaller ones, and their laws, each proved once. Definitions alone, in `specs`.
+//! Grammars put together from smaller ones, and their laws, each proved once (in `specs`, where what a type promises may cite
+//! them); and readers and writers of what grammars spell. A type says which grammar is its own, reads a value at the front of
+//! bytes, and appends its spelling; the rest is done here once for all types.
 #![tactic(auto)]
 
 mod common;

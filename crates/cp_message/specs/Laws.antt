@@ -5,8 +5,8 @@ use Rattle.cp_codec.specs.Exact.{IsByte}
 use Rattle.cp_grammar.specs.Grammar.{◌then◌}
 use Rattle.cp_grammar.specs.Fields.{byte, at_least, bytes}
 use Rattle.cp_grammar.specs.Lawful.{IsLawful}
-use Rattle.cp_grammar.proofs.Laws.{AreCases, with_unit, with_variant, no_cases, mapped_lawful, then_lawful, seq_lawful, keyed_lawful}
-use Rattle.cp_grammar.proofs.FieldLaws.{lawful, bytes_lawful, byte_lawful, at_least_lawful, marked_lawful}
+use Rattle.cp_grammar.specs.Laws.{AreCases, with_unit, with_variant, no_cases, mapped_lawful, then_lawful, seq_lawful, keyed_lawful}
+use Rattle.cp_grammar.specs.FieldLaws.{lawful, bytes_lawful, byte_lawful, at_least_lawful, marked_lawful}
 use Rattle.cp_grammar.specs.Common.{index, group_id, thread_no, client_id, members}
 use Rattle.cp_grammar.specs.CommonLaws.{index_lawful, group_lawful, thread_lawful, client_lawful, member_lawful, members_lawful}
 use Rattle.cp_message.specs.RaftLaws.{vote_request_lawful, vote_reply_lawful, append_lawful, append_reply_lawful, chunk_lawful, snapshot_reply_lawful, confirm_lawful, confirmed_lawful}

@@ -6,9 +6,9 @@ use Rattle.cp_grammar.specs.Lawful.{IsLawful}
 use Rattle.cp_grammar.specs.Grammar.{◌then◌}
 use Rattle.cp_grammar.specs.Fields.{bytes}
 use Rattle.cp_grammar.specs.Lists.{each}
-use Rattle.cp_grammar.proofs.Laws.{mapped_lawful, then_lawful}
-use Rattle.cp_grammar.proofs.ListLaws.{listed_lawful, each_lawful}
-use Rattle.cp_grammar.proofs.FieldLaws.{lawful, bytes_lawful, u32_lawful}
+use Rattle.cp_grammar.specs.Laws.{mapped_lawful, then_lawful}
+use Rattle.cp_grammar.specs.ListLaws.{listed_lawful, each_lawful}
+use Rattle.cp_grammar.specs.FieldLaws.{lawful, bytes_lawful, u32_lawful}
 use Rattle.cp_grammar.specs.Common.{index}
 use Rattle.cp_grammar.specs.CommonLaws.{index_lawful, group_lawful}
 use Rattle.cp_message.specs.Votes.{vote_request, vote_reply}

@@ -3,8 +3,8 @@ use Rattle.std.specs.Prelude.{◌<◌, ◌^◌, ℕ}
 use Rattle.std.proofs.Common.{refl, arith}
 use Rattle.cp_codec.specs.Exact.{IsByte}
 use Rattle.cp_grammar.specs.Lawful.{IsLawful}
-use Rattle.cp_grammar.proofs.Laws.{enum_lawful, with_unit, with_variant, no_cases, then_lawful}
-use Rattle.cp_grammar.proofs.FieldLaws.{lawful, byte_lawful, at_least_lawful}
+use Rattle.cp_grammar.specs.Laws.{enum_lawful, with_unit, with_variant, no_cases, then_lawful}
+use Rattle.cp_grammar.specs.FieldLaws.{lawful, byte_lawful, at_least_lawful}
 use Rattle.cp_grammar.specs.Grammar.{◌then◌}
 use Rattle.cp_grammar.specs.Fields.{byte, at_least}
 use Rattle.cp_grammar.specs.Lists.{listed, each}

@@ -4,8 +4,8 @@ use Rattle.std.specs.Prelude.{codes, Option}
 use Rattle.cp_codec.specs.Exact.{IsByte}
 use Rattle.cp_grammar.specs.Grammar.{Grammar, ◌then◌, seq, checked}
 use Rattle.cp_grammar.specs.Lawful.{IsLawful}
-use Rattle.cp_grammar.proofs.Laws.{one_field_lawful}
-use Rattle.cp_grammar.proofs.WordLaws.{lawful_text}
+use Rattle.cp_grammar.specs.Laws.{one_field_lawful}
+use Rattle.cp_grammar.specs.WordLaws.{lawful_text}
 use Rattle.cp_events.specs.declared.plan.HoldLimit.{HoldLimit}
 use Rattle.cp_events.specs.declared.plan.Groups.{Groups}
 use Rattle.cp_events.specs.declared.plan.Reads.{Reads}

@@ -6,7 +6,7 @@ use Rattle.std.proofs.lemmas.List.{length-append}
 use Rattle.cp_grammar.specs.Grammar.{Read, ◌>>=◌, Grammar}
 use Rattle.cp_grammar.specs.Lists.{items_spelling, ItemsFit, items_reading, items, listed, each, until_spelling, UntilFits, goes_on, until_reading, until}
 use Rattle.cp_grammar.specs.Lawful.{IsLawful}
-use Rattle.cp_grammar.proofs.Laws.{ok_is, bind_ok, good_after, keyed_lawful}
+use Rattle.cp_grammar.specs.Laws.{ok_is, bind_ok, good_after, keyed_lawful}
 
 module _ {T A : Type 0} (Good : T → Type 0) (item : List A → Grammar T A) (laws : (before : List A) → IsLawful Good (item before)) where
   items_again : (before : List A) (xs : List A) (rest : List T) → ItemsFit item before xs → items_reading item before (length xs) (items_spelling item before xs ++ rest) ≡ Ok (xs, rest)

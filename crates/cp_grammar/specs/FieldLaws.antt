@@ -14,8 +14,8 @@ use Rattle.cp_codec.specs.Exact.{IsByte}
 use Rattle.cp_codec.specs.Fields.{big_endian}
 use Rattle.cp_codec.proofs.Wide.{IsWide, wide32, wide64, take_bytes}
 use Rattle.cp_grammar.specs.Lawful.{IsLawful}
-use Rattle.cp_grammar.proofs.ListLaws.{listed_lawful, each_lawful}
-use Rattle.cp_grammar.proofs.Laws.{AreCases, bind_ok, guard_ok, guard_rest, test_ok, good_after, ok_is, always_lawful, never_lawful, tokens_lawful, one_field_lawful, checked_lawful, settled_lawful, mapped_lawful, seq_lawful, then_lawful, keyed_lawful, no_cases, with_unit, with_variant, enum_lawful}
+use Rattle.cp_grammar.specs.ListLaws.{listed_lawful, each_lawful}
+use Rattle.cp_grammar.specs.Laws.{AreCases, bind_ok, guard_ok, guard_rest, test_ok, good_after, ok_is, always_lawful, never_lawful, tokens_lawful, one_field_lawful, checked_lawful, settled_lawful, mapped_lawful, seq_lawful, then_lawful, keyed_lawful, no_cases, with_unit, with_variant, enum_lawful}
 
 mark_is : (b : ℕ) (bs rest : List ℕ) → mark_reading b bs ≡ Ok rest → bs ≡ b ∷ rest
 unfolding mark_reading

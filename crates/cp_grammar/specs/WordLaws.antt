@@ -13,8 +13,8 @@ use Rattle.cp_grammar.specs.Grammar.{Grammar, checked, variant, always}
 use Rattle.cp_grammar.specs.Words.{is_end, before_end, from_end, is_word, Token, cut, token_reading, token, word, same_bytes, same_token, keyword, is_decimal, number_word_reading, number_word, texted}
 use Rattle.cp_codec.specs.Exact.{IsByte}
 use Rattle.cp_grammar.specs.Lawful.{IsLawful}
-use Rattle.cp_grammar.proofs.ListLaws.{until_lawful}
-use Rattle.cp_grammar.proofs.Laws.{AreCases, ok_is, checked_lawful, mapped_lawful, with_variant_by, with_unit_by, enum_lawful, no_cases, then_lawful, seq_lawful}
+use Rattle.cp_grammar.specs.ListLaws.{until_lawful}
+use Rattle.cp_grammar.specs.Laws.{AreCases, ok_is, checked_lawful, mapped_lawful, with_variant_by, with_unit_by, enum_lawful, no_cases, then_lawful, seq_lawful}
 
 and_true : (a b : Bool) → (a && b) ≡ true → (a ≡ true) × (b ≡ true)
 and_true true b e = (refl, e)
