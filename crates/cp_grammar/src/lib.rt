@@ -14,7 +14,7 @@ mod stop;
 mod words;
 mod writing;
 
-pub use common::{MOST_INDEX, append_index, append_members, take_index, take_members};
+pub use common::{append_index, append_members, take_index, take_members};
 pub use fields::{
     take_array, take_bytes, take_flag, take_i64, take_mark, take_u8, take_u32, take_u32_between,
     take_u64,

@@ -1,7 +1,8 @@
 //! What a group of members applies its entries to.
-ghost use Rattle.std.specs.Prelude.{◌≡◌, ◌++◌, ◌<◌, ◌≤◌, ◌^◌, [], ℕ, List, length, Option, Some, Result, Err, OnOk, OnErr, IfOk};
+ghost use Rattle.std.specs.Prelude.{◌≡◌, ◌++◌, ◌<◌, ◌≤◌, [], ℕ, List, length, Option, Some, Result, Err, OnOk, OnErr, IfOk};
 ghost use Rattle.std.specs.List.{slice_get};
 ghost use Rattle.cp_base.specs.declared.identifier.GroupId.{GroupId};
+ghost use Rattle.cp_base.specs.declared.limits.TheConstants.{LAST_NUMBER};
 ghost use Rattle.cp_answers.specs.declared.answer.Answer.{Answer};
 ghost use Rattle.cp_grammar.specs.Grammar.{whole};
 ghost use Rattle.cp_ops.specs.Entries.{entry_grammar};
@@ -49,7 +50,7 @@ pub trait Machine: Sized + Drop {
         entry: &[u8],
         out: &mut Items<(Invocation, Answer)>,
     ) -> Result<(), NoMemory>
-        requires { index ≤ 2 ^ 62 }
+        requires { index ≤ LAST_NUMBER }
         ensures view { OnOk result (view self.new ≡ (step (view self.old) index entry.now).view) }
         ensures answers { OnOk result (out.new ≡ out.old ++ (step (view self.old) index entry.now).answers) }
         // Each answer that is given can be spelled.

@@ -1,6 +1,7 @@
 -- The grammars of messages are lawful.
 use Rattle.std.specs.Prelude.{ℕ, ◌<◌, ◌^◌, Bool, true, false, if◌then◌else◌, ◌==◌}
 use Rattle.std.proofs.Common.{arith, refl}
+use Rattle.cp_base.specs.declared.limits.TheConstants.{MOST_ENTRY, OLDER_MOST_ENTRY}
 use Rattle.cp_codec.specs.Exact.{IsByte}
 use Rattle.cp_grammar.specs.Grammar.{◌then◌}
 use Rattle.cp_grammar.specs.Fields.{byte, at_least, bytes}
@@ -79,7 +80,7 @@ headed_lawful most below kind = mapped_lawful IsByte (address then address then 
     (then_lawful IsByte address address_lawful (address then body_within most kind)
     (then_lawful IsByte address address_lawful (body_within most kind) ((bodies_lawful most below).laws kind))) _ _ (λ _ _. refl)
 
-either_below : (older : Bool) → (if older then 4096 else 8192) < 2 ^ 32
+either_below : (older : Bool) → (if older then OLDER_MOST_ENTRY else MOST_ENTRY) < 2 ^ 32
 either_below true = omega arith
 either_below false = omega arith
 
