@@ -8,6 +8,7 @@ mod refusing;
 #[cfg(test)]
 mod tests;
 
+pub use cp_rules::Change;
 pub use making::{changed, changed_config};
 pub use refusing::may_change;
 

@@ -10,5 +10,6 @@ mod session_set;
 #[cfg(test)]
 mod tests;
 
+pub use cp_group_state::{Holder, LockRow};
 pub use locks::Locks;
 pub use outcome::{LockError, Released, Taken};

@@ -15,6 +15,12 @@ use cp_base::{GroupId, Invocation, Items, NoMemory};
 use cp_grammar::ReadError;
 use std::alloc::Global;
 
+/// Why bytes are no snapshot.
+pub type RestoreError = ReadError;
+
+/// Answers with the invocations that they are given to.
+pub type Answers = Items<(Invocation, Answer)>;
+
 /// What a group of members applies its entries to, one after another. Contracts see what a machine stands for, its view.
 /// After want of memory in `apply` a machine is only dropped.
 pub trait Machine: Sized + Drop {
@@ -44,12 +50,7 @@ pub trait Machine: Sized + Drop {
         ensures { IfOk result (λ machine. view machine ≡ first group members size) };
 
     /// Applies the entry of this index, and appends the answers that it gives.
-    fn apply(
-        &mut self,
-        index: u64,
-        entry: &[u8],
-        out: &mut Items<(Invocation, Answer)>,
-    ) -> Result<(), NoMemory>
+    fn apply(&mut self, index: u64, entry: &[u8], out: &mut Answers) -> Result<(), NoMemory>
         requires { index ≤ LAST_NUMBER }
         ensures view { OnOk result (view self.new ≡ (step (view self.old) index entry.now).view) }
         ensures answers { OnOk result (out.new ≡ out.old ++ (step (view self.old) index entry.now).answers) }
@@ -73,7 +74,7 @@ pub trait Machine: Sized + Drop {
         ensures err { OnErr result (out.new.items ≡ out.old.items) };
 
     /// The machine of a snapshot, or why the bytes are none.
-    fn restore(alloc: Global, bytes: &[u8]) -> Result<Self, ReadError>
+    fn restore(alloc: Global, bytes: &[u8]) -> Result<Self, RestoreError>
         ensures { Restores view result (restored bytes.now) };
 
     /// What a read is answered without an entry. Bytes that spell no such read are answered by none.

@@ -17,6 +17,7 @@ mod vote;
 pub use append::{Append, AppendReply};
 pub use body::Body;
 pub use confirm::{Confirm, Confirmed};
+pub use cp_grammar::ReadError;
 pub use entries::{LogEntry, take_copy, take_entries};
 pub use message::{Message, no_message_begins_another};
 pub use request::{Reply, Request};

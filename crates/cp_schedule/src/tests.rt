@@ -2,7 +2,9 @@ use super::*;
 use crate::ScheduleError::{BadSchedule, NotBuilt};
 use crate::header::take_header;
 use cp_base::{ClientNo, Items, MemberNo, Name, ThreadNo};
-use cp_events::{Event, Groups, HoldLimit, Line, LongCall, Object, Plan, Reads, Schedule, UserOp};
+use cp_events::{
+    Event, Groups, HoldLimit, Line, LongCall, Object, Plan, ReadsBy, Schedule, UserOp,
+};
 use cp_grammar::Stop;
 use cp_object_ops::LongOp;
 use std::test::*;

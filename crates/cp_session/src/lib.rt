@@ -14,6 +14,7 @@ mod sessions;
 #[cfg(test)]
 mod tests;
 
+pub use cp_group_state::SessionRow;
 pub use error::SessionError;
 pub use sessions::Sessions;
 

@@ -10,4 +10,5 @@ mod shelf;
 mod tests;
 mod waits;
 
+pub use cp_group_state::Waiter;
 pub use waits::{RowsError, WaitError, Waits};

@@ -1,6 +1,6 @@
 use Rattle.std.proofs.Common.{◌∙◌, ap, ◌++◌, codes}
 use Rattle.cp_transcript.proofs.Whole.{whole_is}
-use Rattle.cp_transcript.proofs.transcript.Transcript.into_text.Goals as goal
+use Rattle.cp_transcript.proofs.transcript.TranscriptWriter.into_text.Goals as goal
 
 pub returns : goal.returns
 returns c = λ shown history tells.

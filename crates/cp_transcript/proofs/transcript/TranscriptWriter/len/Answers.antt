@@ -1,6 +1,6 @@
 use Rattle.std.proofs.Common.{◌∙◌}
 use Rattle.cp_transcript.proofs.Whole.{length_is}
-use Rattle.cp_transcript.proofs.transcript.Transcript.len.Goals as goal
+use Rattle.cp_transcript.proofs.transcript.TranscriptWriter.len.Goals as goal
 
 pub returns : goal.returns
 returns c = λ shown history tells.

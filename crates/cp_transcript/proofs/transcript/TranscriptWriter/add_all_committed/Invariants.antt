@@ -2,7 +2,7 @@ use Rattle.std.proofs.Common.{◌≡◌, ◌+◌, ◌++◌, List, take}
 use Rattle.cp_events.specs.declared.effects.Effects.{Effects}
 use Rattle.cp_world_rules.specs.Rows.{Committed}
 use Rattle.cp_transcript.specs.Telling.{Tells, committed_at}
-use Rattle.cp_transcript.proofs.transcript.Transcript.add_all_committed.Given as goal
+use Rattle.cp_transcript.proofs.transcript.TranscriptWriter.add_all_committed.Given as goal
 
 abbrev pub invariant-loop-entry : goal.invariant-loop-entry
 invariant-loop-entry l =

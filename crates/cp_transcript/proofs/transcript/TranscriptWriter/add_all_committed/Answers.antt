@@ -1,7 +1,7 @@
 use Rattle.std.proofs.Common.{arith, subst}
 use Rattle.cp_transcript.specs.Telling.{Tells}
 use Rattle.cp_transcript.proofs.Growing.{entries_begin, entries_more, entries_all}
-use Rattle.cp_transcript.proofs.transcript.Transcript.add_all_committed.Goals as goal
+use Rattle.cp_transcript.proofs.transcript.TranscriptWriter.add_all_committed.Goals as goal
 
 pub loop-entry-init : goal.loop-entry-init
 loop-entry-init c = (
