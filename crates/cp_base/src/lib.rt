@@ -8,8 +8,6 @@ mod items;
 mod memory;
 mod name;
 mod split;
-#[cfg(test)]
-mod tests;
 mod text;
 
 pub use decimal::{read_decimal, read_signed, write_decimal, write_signed};

@@ -10,8 +10,6 @@ mod leading;
 mod members;
 mod replying;
 mod role;
-#[cfg(test)]
-mod tests;
 mod voting;
 mod waiting;
 
