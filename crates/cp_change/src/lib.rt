@@ -6,6 +6,7 @@ ghost use Rattle.cp_change.specs.Laws.{ChangesLeaveMembers};
 mod making;
 mod refusing;
 
+pub use cp_rules::Change;
 pub use making::{changed, changed_config};
 pub use refusing::may_change;
 
