@@ -9,8 +9,6 @@ pub mod limits;
 mod memory;
 mod name;
 mod split;
-#[cfg(test)]
-mod tests;
 mod text;
 
 pub use decimal::{read_decimal, read_signed, write_decimal, write_signed};

@@ -8,8 +8,6 @@ mod fields;
 mod lines;
 mod lists;
 mod spelled;
-#[cfg(test)]
-mod spelling_tests;
 mod stop;
 mod words;
 mod writing;

@@ -7,8 +7,6 @@ mod meet;
 mod outcome;
 mod rows;
 mod session_set;
-#[cfg(test)]
-mod tests;
 
 pub use cp_group_state::{Holder, LockRow};
 pub use locks::Locks;

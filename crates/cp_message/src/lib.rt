@@ -9,8 +9,6 @@ mod message;
 mod request;
 mod snapshot;
 mod task;
-#[cfg(test)]
-mod tests;
 mod text;
 mod vote;
 

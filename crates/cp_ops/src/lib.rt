@@ -9,8 +9,6 @@ mod member_op;
 mod op;
 mod session_op;
 mod sizes;
-#[cfg(test)]
-mod tests;
 
 pub use change_op::ChangeOp;
 pub use cp_answers::{

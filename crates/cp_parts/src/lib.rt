@@ -7,8 +7,6 @@ mod down;
 mod log_entry;
 mod part;
 mod snapshot_head;
-#[cfg(test)]
-mod tests;
 
 pub use config::{Config, config_of_entry};
 pub use down::Down;

@@ -4,8 +4,6 @@
 mod run;
 mod running;
 mod status;
-#[cfg(test)]
-mod tests;
 
 use cp_io::{Reading, Writing};
 use run::run;
