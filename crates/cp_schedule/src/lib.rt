@@ -7,8 +7,6 @@ mod fronts;
 mod header;
 mod laws;
 mod reading;
-#[cfg(test)]
-mod tests;
 mod writing;
 
 pub use laws::{

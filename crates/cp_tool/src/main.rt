@@ -1,8 +1,12 @@
 //! The program `cp`.
 #![tactic(auto)]
 
+#[cfg(test)]
+mod client_tests;
 mod run;
 mod running;
+#[cfg(test)]
+mod schedule_tests;
 mod status;
 #[cfg(test)]
 mod tests;

@@ -1,6 +1,7 @@
-use super::*;
+//! One client, step by step. What is expected was worked out by hand.
 use cp_answers::{Answer, EndedBy};
 use cp_base::{ClientId, ClientNo, Invocation, Items, Name, NoMemory, ThreadNo};
+use cp_client::{Client, ClientOut};
 use cp_events::{Ending, LatchCall, LockCall, LongCall, Object, Plan, UserOp};
 use cp_object_ops::{LatchOp, LockOp, LongOp};
 use cp_op_values::Wish;

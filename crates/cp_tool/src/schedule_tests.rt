@@ -1,62 +1,12 @@
-use super::*;
-use crate::ScheduleError::{BadSchedule, NotBuilt};
-use crate::header::take_header;
-use cp_base::{ClientNo, Items, MemberNo, Name, ThreadNo};
-use cp_events::{Event, Groups, HoldLimit, Line, LongCall, Object, Plan, Reads, Schedule, UserOp};
-use cp_grammar::Stop;
+//! What is read of schedules. What is expected was worked out by hand.
+use cp_base::{ClientNo, Items, Name, ThreadNo};
+use cp_events::{Event, Line, LongCall, Object, Plan, UserOp};
 use cp_object_ops::LongOp;
+use cp_schedule::ScheduleError::{BadSchedule, NotBuilt};
+use cp_schedule::read;
 use std::test::*;
 
 const OPENING: &str = "cp 1\nmembers 0\nsize 1\nclients 1\n";
-
-fn fault_of(rt: &HostRuntime, text: &str) -> Option<ScheduleError> {
-    read(rt.alloc(), text.as_bytes()).err()
-}
-
-/// The fault of a text behind the four lines that always stand.
-fn fault_behind(rt: &HostRuntime, text: &str) -> Result<Option<ScheduleError>, Fail> {
-    let whole = format!(in rt.alloc(); "{OPENING}{text}")?;
-    Ok(fault_of(rt, &whole))
-}
-
-#[test]
-fn first_lines(rt: HostRuntime) {
-    for (text, line) in [
-        ("\n", 1),
-        ("cp 2\n", 1),
-        ("cp  1\n", 1),
-        ("cp 1\r\n", 1),
-        ("cp 1\nmembers 10\n", 2),
-        ("cp 1\nmembers 00\n", 2),
-        ("cp 1\nmembers 0 \n", 2),
-        ("cp 1\nsize 1\n", 2),
-    ] {
-        assert_eq!(rt; fault_of(&rt, text), Some(BadSchedule(line)), "at {text}");
-    }
-}
-
-#[test]
-fn the_last_line(rt: HostRuntime) -> Result<(), Fail> {
-    for (text, line) in [
-        ("settle 1\n", 6),
-        ("settle 1\nend", 6),
-        ("settle 1", 5),
-        ("end\nend\n", 6),
-        ("end\n\n", 6),
-        ("end\nx", 6),
-        ("end \n", 5),
-        ("\nend\n", 5),
-        (" settle 1\nend\n", 5),
-        ("open\nend\n", 5),
-    ] {
-        assert_eq!(rt;
-            fault_behind(&rt, text)?,
-            Some(BadSchedule(line)),
-            "at {text}"
-        );
-    }
-    Ok(())
-}
 
 fn lines_of(rt: &HostRuntime, text: &str) -> Result<Items<Line>, Fail> {
     let whole = format!(in rt.alloc(); "{OPENING}{text}")?;
