@@ -7,6 +7,8 @@ mod run;
 mod running;
 #[cfg(test)]
 mod schedule_tests;
+#[cfg(test)]
+mod tests;
 mod status;
 
 use cp_base::NoMemory;
