@@ -1,7 +1,8 @@
 -- Countdown latches in rounds.
-use Rattle.std.specs.Prelude.{ℕ, ◌+◌, ◌-◌, ◌^◌, pos, Bool, true, false, not, ◌||◌, ◌==◌, List, [], ◌∷◌, ◌++◌, length, map, min, sum, Option, Some, None, if◌then◌else◌, nat_lt}
+use Rattle.std.specs.Prelude.{ℕ, ◌+◌, ◌-◌, pos, Bool, true, false, not, ◌||◌, ◌==◌, List, [], ◌∷◌, ◌++◌, length, map, min, sum, Option, Some, None, if◌then◌else◌, nat_lt}
 use Rattle.std.specs.List.{list_any}
 use Rattle.cp_base.specs.declared.identifier.Invocation.{Invocation}
+use Rattle.cp_base.specs.declared.limits.TheConstants.{LAST_NUMBER, MOST_COUNTED}
 use Rattle.cp_answers.specs.declared.answer.Answer.{Answer}
 use Rattle.cp_answers.specs.declared.answer.Answer.TheVariants as answer
 use Rattle.cp_object_ops.specs.declared.latch_op.LatchOp.{LatchOp}
@@ -30,7 +31,7 @@ abbrev pub counted_calls : Named LatchRow → ℕ
 counted_calls rows = sum (map (λ e. length e.1.counted) rows)
 
 abbrev pub most_counted : ℕ
-most_counted = 100000
+most_counted = MOST_COUNTED
 
 -- the rows after a call, and what it leads to
 pub record LatchStep : Type 0 where
@@ -38,7 +39,7 @@ pub record LatchStep : Type 0 where
   pub outcome : LatchOutcome
 
 abbrev pub next_round : LatchRow → ℕ → LatchRow
-next_round row n = record { round = min (row.round + 1) (2 ^ 62); count = n; counted = [] }
+next_round row n = record { round = min (row.round + 1) LAST_NUMBER; count = n; counted = [] }
 
 abbrev pub set_latch : Named LatchRow → List ℕ → LatchRow → ℕ → LatchStep
 set_latch rows name row n = if row.count == 0
@@ -66,7 +67,8 @@ latch_step_at rows name call latch.Count row = record { after = rows; outcome = 
 latch_step_at rows name call latch.Round row = record { after = rows; outcome = Done (answer.Value (pos row.round)) }
 latch_step_at rows name call (latch.Set n) row = set_latch rows name row n
 latch_step_at rows name call (latch.Down round) row = count_down rows name call round row
-latch_step_at rows name call (latch.Await millis) row = record { after = rows; outcome = if row.count == 0 then Done (answer.Bool true) else Wants }
+latch_step_at rows name call (latch.Await millis) row =
+    record { after = rows; outcome = if row.count == 0 then Done (answer.Bool true) else Wants }
 
 abbrev pub latch_step : Named LatchRow → List ℕ → Invocation → LatchOp → LatchStep
 latch_step rows name call op = latch_step_at rows name call op (latch_at rows name)

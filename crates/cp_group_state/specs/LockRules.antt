@@ -32,7 +32,8 @@ abbrev pub lock_rule : ℕ → Invocation → List ℕ → LockOp → GroupState
 lock_rule index call name lock.Owner s = answered (owner_answer (lock_at s.locks name)) s
 lock_rule index call name (lock.Acquire session limit wish) s =
     let step = acquired s.locks index name (record { session = session; thread = call.thread }) limit in
-    on_taken (record { call = call; kind = kind.Lock; name = name; session = session; permits = 0; wish = wish }) wish step.taken (record s { locks = step.rows })
+    on_taken (record { call = call; kind = kind.Lock; name = name; session = session; permits = 0; wish = wish })
+    wish step.taken (record s { locks = step.rows })
 lock_rule index call name (lock.Release session) s =
     let step = released_by s.locks name (record { session = session; thread = call.thread }) in
     on_released index name step.released (record s { locks = step.rows })

@@ -1,6 +1,7 @@
 -- Reentrant locks with fences.
-use Rattle.std.specs.Prelude.{ℕ, ◌+◌, ◌-◌, ◌^◌, Bool, not, ◌&&◌, ◌==◌, List, map, Option, Some, None, if◌then◌else◌, nat_lt}
+use Rattle.std.specs.Prelude.{ℕ, ◌+◌, ◌-◌, Bool, not, ◌&&◌, ◌==◌, List, map, Option, Some, None, if◌then◌else◌, nat_lt}
 use Rattle.std.specs.List.{filter}
+use Rattle.cp_base.specs.declared.limits.TheConstants.{MOST_HOLDS}
 use Rattle.cp_group_state.specs.Rows.{Named, find, put, has_room, most, name_cmp}
 use Rattle.cp_group_state.specs.Sessions.{is_among}
 pub use Rattle.cp_group_state.specs.declared.rows.Holder.{Holder}
@@ -38,7 +39,7 @@ pub record Acquired : Type 0 where
 
 -- the most holds under a limit, where 0 stands for none
 abbrev pub most_holds : ℕ → ℕ
-most_holds limit = if limit == 0 then 2 ^ 31 - 1 else limit
+most_holds limit = if limit == 0 then MOST_HOLDS else limit
 
 abbrev pub acquired_free : Named LockRow → ℕ → List ℕ → Holder → Acquired
 acquired_free rows index name who = if has_room name_cmp most rows name

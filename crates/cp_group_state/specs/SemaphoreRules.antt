@@ -18,7 +18,8 @@ on_sem key waits semaphore.Wants s = waits
 on_sem key waits (semaphore.Served a available) s = answered_with a (serve key s)
 
 abbrev pub sem_wait : Invocation → Object → SemOp → GroupState → Outcome
-sem_wait call key (sem.Acquire session n wish) s = wait (record { call = call; kind = key.1; name = key.0; session = session; permits = n; wish = wish }) wish s
+sem_wait call key (sem.Acquire session n wish) s =
+    wait (record { call = call; kind = key.1; name = key.0; session = session; permits = n; wish = wish }) wish s
 sem_wait call key op s = answered answer.NotInitialized s
 
 abbrev pub is_acquire : SemOp → Bool

@@ -29,10 +29,9 @@ fn latch_wait(call: &Invocation, name: &Name, op: &LatchOp) -> Result<Reply, NoM
                 wish: Wish::Within(millis),
             }))
         }
-        LatchOp::Count => Ok(Reply::Answered(Answer::Ok)),
-        LatchOp::Round => Ok(Reply::Answered(Answer::Ok)),
-        LatchOp::Set(_) => Ok(Reply::Answered(Answer::Ok)),
-        LatchOp::Down(_) => Ok(Reply::Answered(Answer::Ok)),
+        LatchOp::Count | LatchOp::Round | LatchOp::Set(_) | LatchOp::Down(_) => {
+            Ok(Reply::Answered(Answer::Ok))
+        }
     }
 }
 

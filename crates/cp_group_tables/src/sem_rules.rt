@@ -16,12 +16,12 @@ fn is_acquire(op: &SemOp) -> bool
 {
     match op {
         SemOp::Acquire(_, _, _) => true,
-        SemOp::Available => false,
-        SemOp::Init(_) => false,
-        SemOp::Release(_, _) => false,
-        SemOp::Drain(_) => false,
-        SemOp::Increase(_, _) => false,
-        SemOp::Reduce(_, _) => false,
+        SemOp::Available
+        | SemOp::Init(_)
+        | SemOp::Release(_, _)
+        | SemOp::Drain(_)
+        | SemOp::Increase(_, _)
+        | SemOp::Reduce(_, _) => false,
     }
 }
 
@@ -42,12 +42,12 @@ fn sem_wait(call: &Invocation, kind: Kind, name: &Name, op: &SemOp) -> Result<Re
                 wish,
             }))
         }
-        SemOp::Available => Ok(Reply::Answered(Answer::NotInitialized)),
-        SemOp::Init(_) => Ok(Reply::Answered(Answer::NotInitialized)),
-        SemOp::Release(_, _) => Ok(Reply::Answered(Answer::NotInitialized)),
-        SemOp::Drain(_) => Ok(Reply::Answered(Answer::NotInitialized)),
-        SemOp::Increase(_, _) => Ok(Reply::Answered(Answer::NotInitialized)),
-        SemOp::Reduce(_, _) => Ok(Reply::Answered(Answer::NotInitialized)),
+        SemOp::Available
+        | SemOp::Init(_)
+        | SemOp::Release(_, _)
+        | SemOp::Drain(_)
+        | SemOp::Increase(_, _)
+        | SemOp::Reduce(_, _) => Ok(Reply::Answered(Answer::NotInitialized)),
     }
 }
 

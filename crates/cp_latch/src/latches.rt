@@ -1,5 +1,5 @@
 //! The table of the latches of a group.
-ghost use Rattle.std.specs.Prelude.{◌≡◌, ◌≤◌, ◌^◌, ◌==◌, [], ◌∷◌, ◌++◌, true, IfOk, OnOk, OnErr, IfSome, if◌then◌else◌};
+ghost use Rattle.std.specs.Prelude.{◌≡◌, ◌≤◌, ◌==◌, [], ◌∷◌, ◌++◌, true, IfOk, OnOk, OnErr, IfSome, if◌then◌else◌};
 ghost use Rattle.cp_answers.specs.declared.answer.Answer.TheVariants as answer;
 ghost use Rattle.cp_group_state.specs.Rows.{without, name_cmp};
 ghost use Rattle.cp_group_state.specs.Invariants.{IsRising};
@@ -8,6 +8,7 @@ ghost use Rattle.cp_latch.specs.Rounds.{AreRounds};
 
 use crate::Latch;
 use crate::rounds::{Begun, Down, begin_in, down_in, first_round, make_row};
+use cp_base::limits::{LAST_NUMBER, MOST_COUNTED};
 use cp_base::{Invocation, Items, Name, NoMemory};
 use cp_group_state::{LatchOutcome, LatchRow};
 use cp_ops::{Answer, LatchOp};
@@ -38,9 +39,6 @@ impl Model for Latches {
     ghost invariant = { λ latches. latches.total ≡ counted_calls latches.rows.entries };
 }
 
-/// The most counted calls of all latches.
-const MOST_COUNTED: u32 = 100_000;
-
 /// Sets a latch. `total` is how many calls are counted in all.
 fn set(
     rows: &mut BTreeMap<Name, Latch>,
@@ -51,7 +49,8 @@ fn set(
 ) -> Result<Answer, NoMemory>
     requires { total.old ≡ counted_calls rows.old.entries }
     ensures rows { OnOk result (rows.new.entries ≡ (set_latch rows.old.entries name.now (latch_at rows.old.entries name.now) count).after) }
-    ensures answer { IfOk result (λ answer. (set_latch rows.old.entries name.now (latch_at rows.old.entries name.now) count).outcome ≡ Done answer) }
+    ensures answer { IfOk result
+        (λ answer. (set_latch rows.old.entries name.now (latch_at rows.old.entries name.now) count).outcome ≡ Done answer) }
     ensures err { OnErr result (rows.new.entries ≡ rows.old.entries) }
     ensures total { total.new ≡ counted_calls rows.new.entries }
 {
@@ -74,8 +73,10 @@ fn count_down(
     round: u64,
 ) -> Result<LatchOutcome, NoMemory>
     requires { total.old ≡ counted_calls rows.old.entries }
-    ensures rows { OnOk result (rows.new.entries ≡ (count_down rows.old.entries name.now call.now round (latch_at rows.old.entries name.now)).after) }
-    ensures outcome { IfOk result (λ outcome. outcome ≡ (count_down rows.old.entries name.now call.now round (latch_at rows.old.entries name.now)).outcome) }
+    ensures rows { OnOk result
+        (rows.new.entries ≡ (count_down rows.old.entries name.now call.now round (latch_at rows.old.entries name.now)).after) }
+    ensures outcome { IfOk result
+        (λ outcome. outcome ≡ (count_down rows.old.entries name.now call.now round (latch_at rows.old.entries name.now)).outcome) }
     ensures err { OnErr result (rows.new.entries ≡ rows.old.entries) }
     ensures total { total.new ≡ counted_calls rows.new.entries }
 {
@@ -122,7 +123,7 @@ fn add(
     name: Name,
     row: LatchRow,
 ) -> Result<(), NoMemory>
-    requires { row.round ≤ 2 ^ 62 }
+    requires { row.round ≤ LAST_NUMBER }
     ensures { OnOk result (latches.new ≡ latches.old ++ (name, row) ∷ []) }
 {
     let latch = Latch::from_row(alloc, row)?;
@@ -205,7 +206,7 @@ impl Latches {
     /// The round of a latch, 0 where it has no row.
     pub fn round(&self, name: &Name) -> u64
         ensures value { result ≡ (latch_at self.now name.now).round }
-        ensures bound { result ≤ 2 ^ 62 }
+        ensures bound { result ≤ LAST_NUMBER }
     {
         match self.rows.get(name) {
             Some(latch) => latch.round(),

@@ -9,9 +9,10 @@ ghost use Rattle.cp_lock.specs.Outcomes.{IsLockError, owner_of};
 
 use crate::close::{free_rows, names_held};
 use crate::error::LockError;
-use crate::meet::{self, Asked, MOST_ROWS, Step};
+use crate::meet::{self, Asked, Step};
 use crate::rows::{put_row, write_row};
 use crate::session_set::SessionSet;
+use cp_base::limits::MOST_ROWS;
 use cp_base::{Items, Name, NoMemory};
 use cp_group_state::{Holder, LockRow, Released, Taken};
 use std::alloc::Global;

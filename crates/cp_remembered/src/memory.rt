@@ -68,10 +68,7 @@ impl Memory {
     }
 
     /// The table of these rows, by rising key.
-    pub fn from_rows(
-        alloc: Global,
-        rows: Items<((u64, u8), MemoryRow)>,
-    ) -> Result<Memory, NoMemory>
+    pub fn from_rows(alloc: Global, rows: Items<((u64, u8), MemoryRow)>) -> Result<Memory, NoMemory>
         requires { IsRising holder_cmp rows }
         ensures { IfOk result (λ memory. memory ≡ rows) }
     {

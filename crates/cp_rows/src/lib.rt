@@ -5,4 +5,4 @@ mod changing;
 mod rows;
 
 pub use changing::{put_row, write_row};
-pub use rows::{MOST, from_rows};
+pub use rows::from_rows;

@@ -9,12 +9,11 @@ ghost use Rattle.cp_semaphore.specs.Tables.{seen, IsMet, IsTable};
 
 use crate::tables::{self, Tables};
 use crate::{amounts, holdings, rows};
+use cp_base::limits::{MOST_PERMITS, MOST_ROWS};
 use cp_base::{Name, NoMemory};
 use cp_group_state::{SemOutcome, SemaphoreRow};
 use cp_ops::{Answer, Argument, Kind, SemOp};
 
-/// The greatest total that permits may be added up to.
-const GREATEST: i64 = 2147483647;
 /// What may stand available at least, by a reduction.
 const LEAST: i64 = -2147483648;
 
@@ -25,7 +24,7 @@ fn raise(tables: &mut Tables, key: &(Name, Kind), row: SemaphoreRow, permits: u3
     ensures outcome { result ≡ (raise_total key.now row permits (seen tables.old)).outcome }
     ensures nested { IsNested tables.new.holdings.entries }
 {
-    if row.total + i64::from(permits) > GREATEST {
+    if row.total + i64::from(permits) > i64::from(MOST_PERMITS) {
         return SemOutcome::Done(Answer::BadArgument(Argument::Overflow));
     }
     tables::grow(tables, key, row, permits);
@@ -88,8 +87,10 @@ fn acquire(
     permits: u32,
 ) -> Result<SemOutcome, NoMemory>
     requires { IsMet tables.old key.now row }
-    ensures after { OnOk result (seen tables.new ≡ (sem_step_at key.now row (sem.Acquire session permits wish.NoLimit) (seen tables.old)).after) }
-    ensures outcome { IfOk result (λ o. o ≡ (sem_step_at key.now row (sem.Acquire session permits wish.NoLimit) (seen tables.old)).outcome) }
+    ensures after { OnOk result
+        (seen tables.new ≡ (sem_step_at key.now row (sem.Acquire session permits wish.NoLimit) (seen tables.old)).after) }
+    ensures outcome { IfOk result
+        (λ o. o ≡ (sem_step_at key.now row (sem.Acquire session permits wish.NoLimit) (seen tables.old)).outcome) }
     ensures err { OnErr result (seen tables.new ≡ seen tables.old) }
     ensures nested { IsNested tables.new.holdings.entries }
 {
@@ -173,7 +174,7 @@ fn init(tables: &mut Tables, key: (Name, Kind), permits: u32) -> Result<SemOutco
     ensures nested { IsNested tables.new.holdings.entries }
 {
     if !rows::has_room(&tables.rows, &key) {
-        return Ok(SemOutcome::Done(Answer::TableFull(10000)));
+        return Ok(SemOutcome::Done(Answer::TableFull(MOST_ROWS)));
     }
     let row = SemaphoreRow {
         total: i64::from(permits),

@@ -19,8 +19,12 @@ fn append(
     row: SessionRow,
 ) -> Result<(), NoMemory>
     requires { IsIndexed rows.old.entries numbers.old.entries }
-    ensures rows { OnOk result ((rest : List (ℕ × SessionRow)) → IsTable (rows.old.entries ++ (number, row) ∷ rest) → rows.new.entries ≡ rows.old.entries ++ (number, row) ∷ []) }
-    ensures indexed { OnOk result ((rest : List (ℕ × SessionRow)) → IsTable (rows.old.entries ++ (number, row) ∷ rest) → IsIndexed rows.new.entries numbers.new.entries) }
+    ensures rows { OnOk result
+        ((rest : List (ℕ × SessionRow)) → IsTable (rows.old.entries ++ (number, row) ∷ rest) → rows.new.entries
+            ≡ rows.old.entries ++ (number, row) ∷ []) }
+    ensures indexed { OnOk result
+        ((rest : List (ℕ × SessionRow)) → IsTable (rows.old.entries ++ (number, row) ∷ rest)
+            → IsIndexed rows.new.entries numbers.new.entries) }
 {
     name(numbers, row.client, number)?;
     cp_rows::put_row(rows, number, row)?;
