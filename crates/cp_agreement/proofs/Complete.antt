@@ -1,8 +1,8 @@
 -- Leader completeness in one state that meets the invariant: a chosen entry stands in each log that can win a later election.
 use Rattle.cp_parts.specs.declared.log_entry.LogEntry.{LogEntry}
-use Rattle.cp_rules.specs.Entries.{members_in}
-use Rattle.cp_rules.specs.Configurations.{AreAdjacent, AreOneApart, configuration_after}
-use Rattle.cp_rules.specs.Logs.{HasTerm, IsUpToDate}
+use Rattle.cp_agreement_facts.specs.Entries.{members_in}
+use Rattle.cp_agreement_facts.specs.Configurations.{AreAdjacent, AreOneApart, configuration_after}
+use Rattle.cp_agreement_facts.specs.Logs.{HasTerm, IsUpToDate}
 use Rattle.cp_agreement.specs.WholeLogs.{Cluster}
 use Rattle.std.proofs.Common.{◌≡◌, ◌≢◌, ℕ, zero, suc, ◌<◌, ◌≤◌, ◌⊎◌, inl, inr, ⊎_elim, List, length, refl, ap, sym, ◌∙◌, arith, subst, subst₂, Some, slice_get, le_refl}
 use Rattle.std.proofs.lemmas.Bool.{cases_lt, cases_eq, cases_order}

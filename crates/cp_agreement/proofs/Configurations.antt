@@ -1,7 +1,7 @@
 -- The configuration in force at the end of a log.
 use Rattle.cp_parts.specs.declared.log_entry.LogEntry.{LogEntry}
-use Rattle.cp_rules.specs.Entries.{members_in}
-use Rattle.cp_rules.specs.Configurations.{configuration_after, members_or}
+use Rattle.cp_agreement_facts.specs.Entries.{members_in}
+use Rattle.cp_agreement_facts.specs.Configurations.{configuration_after, members_or}
 use Rattle.std.proofs.Common.{◌≡◌, ℕ, zero, suc, ◌≤◌, ◌⊎◌, inl, inr, List, [], ◌∷◌, refl, ap, sym, ◌∙◌, arith, Some, None, Option, slice_get}
 use Rattle.std.proofs.lemmas.Option.{same_Some}
 use Rattle.cp_agreement.proofs.Logs.{Share}

@@ -1,6 +1,6 @@
 -- A crash, between two steps or at the end of one, meets the facts. So no other lemma has a case for it.
 use Rattle.std.proofs.Common.{◌≡◌, ◌⊎◌, ◌≢◌, ℕ, inl, inr, ⊎_elim, List, [], refl, sym, arith, Contains, le_refl, true≢false}
-use Rattle.cp_rules.specs.Clusters.{Append, Appended, Message, Vote, Voted}
+use Rattle.cp_agreement_facts.specs.Clusters.{Append, Appended, Message, Vote, Voted}
 use Rattle.cp_agreement.specs.WholeLogs.{Cluster, Step, Facts, EntriesCreated, FollowsLeader, WinsElection, crash, cut_off}
 
 none_sent : (m : Message) → Contains {X = Message} [] m → ⊥

@@ -1,10 +1,10 @@
 -- What an execution has shown so far, as functions of a term: the ghost, which is read off the steps and which no member keeps, and
 -- the invariant that each step keeps.
 use Rattle.cp_parts.specs.declared.log_entry.LogEntry.{LogEntry}
-use Rattle.cp_rules.specs.Entries.{members_in}
-use Rattle.cp_rules.specs.Configurations.{AreOneApart, HasQuorum, configuration_after}
-use Rattle.cp_rules.specs.Logs.{EndsAt, HasTerm, IsUpToDate}
-use Rattle.cp_rules.specs.Clusters.{Append, Appended, Vote, Voted, put}
+use Rattle.cp_agreement_facts.specs.Entries.{members_in}
+use Rattle.cp_agreement_facts.specs.Configurations.{AreOneApart, HasQuorum, configuration_after}
+use Rattle.cp_agreement_facts.specs.Logs.{EndsAt, HasTerm, IsUpToDate}
+use Rattle.cp_agreement_facts.specs.Clusters.{Append, Appended, Vote, Voted, put}
 use Rattle.cp_agreement.specs.WholeLogs.{Cluster, Member, Step, after_step, cluster_after}
 use Rattle.std.proofs.Common.{◌≡◌, ◌≢◌, ℕ, suc, ◌+◌, ◌<◌, ◌≤◌, ◌⊎◌, ⊎_elim, true, List, [], ◌∷◌, length, refl, sym, subst, Some, None, slice_get, Contains, if◌then◌else◌, ◌==◌, eq-eqb}
 use Rattle.std.proofs.lemmas.Bool.{cases_eq, ne_eqb}

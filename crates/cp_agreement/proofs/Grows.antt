@@ -1,9 +1,9 @@
 -- One step keeps the invariant: nothing that an execution has shown is taken back.
 use Rattle.cp_parts.specs.declared.log_entry.LogEntry.{LogEntry}
-use Rattle.cp_rules.specs.Entries.{members_in}
-use Rattle.cp_rules.specs.Configurations.{AreOneApart, HasQuorum, configuration_after}
-use Rattle.cp_rules.specs.Logs.{EndsAt, HasEntries, HasTerm, IsUpToDate}
-use Rattle.cp_rules.specs.Clusters.{Append, Appended, Vote, Voted, put}
+use Rattle.cp_agreement_facts.specs.Entries.{members_in}
+use Rattle.cp_agreement_facts.specs.Configurations.{AreOneApart, HasQuorum, configuration_after}
+use Rattle.cp_agreement_facts.specs.Logs.{EndsAt, HasEntries, HasTerm, IsUpToDate}
+use Rattle.cp_agreement_facts.specs.Clusters.{Append, Appended, Vote, Voted, put}
 use Rattle.cp_agreement.specs.WholeLogs.{Member, Acknowledges, Cluster, EntriesCreated, Facts, FollowerCommits, FollowsLeader, GotAppend, LeaderCommits, Step, WinsElection, after_step}
 use Rattle.std.proofs.Common.{◌≡◌, ◌≢◌, ℕ, zero, suc, ◌+◌, ◌*◌, ◌<◌, ◌≤◌, ◌⊎◌, inl, inr, ⊎_elim, true, false, List, [], ◌∷◌, length, refl, ap, sym, ◌∙◌, arith, subst, Some, slice_get, Contains, le_refl, le_trans, le_of_eq, true≢false, lt_of_lt_of_le, lt-suc_self, count_by, le_of_lt}
 use Rattle.std.proofs.lemmas.Bool.{cases_lt, cases_eq, cases_Bool}

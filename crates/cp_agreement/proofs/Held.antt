@@ -3,7 +3,7 @@ use Rattle.std.proofs.Common.{◌≡◌, refl, ℕ, zero, suc, ◌<◌, ◌≤�
 use Rattle.std.proofs.lemmas.Bool.{cases_lt}
 use Rattle.std.proofs.lemmas.Option.{slice_get_within}
 use Rattle.cp_parts.specs.declared.log_entry.LogEntry.{LogEntry}
-use Rattle.cp_rules.specs.Configurations.{AreAdjacent, AreOneApart, HasQuorum, configuration_after}
+use Rattle.cp_agreement_facts.specs.Configurations.{AreAdjacent, AreOneApart, HasQuorum, configuration_after}
 use Rattle.cp_agreement.specs.WholeLogs.{Cluster}
 use Rattle.cp_agreement.proofs.Logs.{Share, share_at, share_sym, share_trans, share_less, share_take, has_place, get-take}
 use Rattle.cp_agreement.proofs.Configurations.{QuietFrom, same_configuration}

@@ -3,7 +3,7 @@ use Rattle.std.proofs.Common.{◌≡◌, ◌≢◌, ℕ, zero, suc, ◌+◌, ◌
 use Rattle.std.proofs.lemmas.Option.{slice_get_within, same_Some}
 use Rattle.std.proofs.lemmas.Bool.{cases_lt}
 use Rattle.cp_parts.specs.declared.log_entry.LogEntry.{LogEntry}
-use Rattle.cp_rules.specs.Logs.{HasEntries, HasTerm, HasTerms, IsUpToDate, Replaces}
+use Rattle.cp_agreement_facts.specs.Logs.{HasEntries, HasTerm, HasTerms, IsUpToDate, Replaces}
 
 -- Both logs have n first entries, and these are equal. It stays so when either grows.
 abbrev pub Share : ℕ → List LogEntry → List LogEntry → Type 0

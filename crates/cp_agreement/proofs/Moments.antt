@@ -4,9 +4,9 @@ use Rattle.std.proofs.lemmas.Bool.{cases_lt}
 use Rattle.std.proofs.lemmas.List.{append_assoc, append-nil}
 use Rattle.cp_parts.specs.declared.log_entry.LogEntry.{LogEntry}
 use Rattle.std.proofs.lemmas.Option.{slice_get_within}
-use Rattle.cp_rules.specs.Configurations.{IsQuorum, AreAdjacent, HasQuorum, configuration_after}
-use Rattle.cp_rules.specs.Logs.{HasTerm, IsPrefixOf}
-use Rattle.cp_rules.specs.Clusters.{Append, Appended, Message, Vote, Voted}
+use Rattle.cp_agreement_facts.specs.Configurations.{IsQuorum, AreAdjacent, HasQuorum, configuration_after}
+use Rattle.cp_agreement_facts.specs.Logs.{HasTerm, IsPrefixOf}
+use Rattle.cp_agreement_facts.specs.Clusters.{Append, Appended, Message, Vote, Voted}
 use Rattle.cp_agreement.specs.WholeLogs.{Cluster, Facts, IsMoment, MeetsFacts, Member, Step, after_step, cluster_after, committed, opening}
 use Rattle.cp_agreement.proofs.Logs.{share_at, Share, share_sym, share_trans, share_less, reach_at, share_length, share_take}
 use Rattle.cp_agreement.proofs.Configurations.{QuietFrom, no_change}

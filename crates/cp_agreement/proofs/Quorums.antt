@@ -1,6 +1,6 @@
 -- Quorums of one configuration, or of adjacent ones, have a common member.
 use Rattle.std.proofs.Common.{◌≡◌, ℕ, suc, ◌+◌, ◌*◌, ◌<◌, ◌≤◌, inl, inr, Bool, true, false, List, [], ◌∷◌, ◌++◌, length, count_by, cond, refl, ap, arith}
-use Rattle.cp_rules.specs.Configurations.{AreAdjacent, HasOneMore, HasQuorum}
+use Rattle.cp_agreement_facts.specs.Configurations.{AreAdjacent, HasOneMore, HasQuorum}
 use Rattle.std.proofs.lemmas.Grind.{common_steps}
 use Rattle.std.proofs.lemmas.List.Sums.{sum_by-append}
 

@@ -1,8 +1,8 @@
 -- The laws of agreement on whole logs. They speak of two states that an execution had, in either order, and of two of its members.
 use Rattle.std.specs.Prelude.{◌≡◌, ◌≢◌, ◌<◌, ◌≤◌, ◌⊎◌, true, ℕ, suc, Bool, List, length, take}
 use Rattle.cp_parts.specs.declared.log_entry.LogEntry.{LogEntry}
-use Rattle.cp_rules.specs.Configurations.{configuration_at, HasQuorum, IsQuorum, AreAdjacent}
-use Rattle.cp_rules.specs.Logs.{HasTerm, IsPrefixOf}
+use Rattle.cp_agreement_facts.specs.Configurations.{configuration_at, HasQuorum, IsQuorum, AreAdjacent}
+use Rattle.cp_agreement_facts.specs.Logs.{HasTerm, IsPrefixOf}
 use Rattle.cp_agreement.specs.WholeLogs.{Cluster, Step, MeetsFacts, IsMoment, cluster_after, committed, Facts, crash, cut_off}
 
 -- No two members lead in one term.

@@ -2,10 +2,10 @@
 -- it to members with snapshots, each of which stands for such a one.
 use Rattle.std.specs.Prelude.{◌≡◌, ◌≢◌, ℕ, ◌+◌, ◌<◌, ◌≤◌, ◌⊎◌, Bool, true, false, List, [], ◌∷◌, ◌++◌, length, take, Option, Some, None, slice_get, Contains}
 use Rattle.cp_parts.specs.declared.log_entry.LogEntry.{LogEntry}
-use Rattle.cp_rules.specs.Entries.{members_in}
-use Rattle.cp_rules.specs.Configurations.{configuration_after, HasQuorum, AreOneApart}
-use Rattle.cp_rules.specs.Logs.{HasTerm, EndsAt, IsUpToDate, HasEntries, HasTerms, Replaces}
-use Rattle.cp_rules.specs.Clusters.{Message, Vote, Voted, Append, Appended, put}
+use Rattle.cp_agreement_facts.specs.Entries.{members_in}
+use Rattle.cp_agreement_facts.specs.Configurations.{configuration_after, HasQuorum, AreOneApart}
+use Rattle.cp_agreement_facts.specs.Logs.{HasTerm, EndsAt, IsUpToDate, HasEntries, HasTerms, Replaces}
+use Rattle.cp_agreement_facts.specs.Clusters.{Message, Vote, Voted, Append, Appended, put}
 
 -- A member. A crash leaves term, vote and log.
 pub record Member : Type 0 where

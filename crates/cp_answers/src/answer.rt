@@ -2,20 +2,20 @@
 ghost use Rattle.cp_grammar.specs.Grammar.{whole};
 ghost use Rattle.cp_answers.specs.Answers.{answer_within, answer_grammar, held_row};
 ghost use Rattle.cp_answers.specs.Laws.{answer_newest_lawful};
-ghost use Rattle.cp_spelling.specs.Readers.{Reads, Tells};
+ghost use Rattle.cp_grammar.specs.Readers.{Reads, Tells};
 ghost use Rattle.std.specs.Prelude.{◌≡◌, ◌++◌, List, ℕ, Ok, OnOk, OnErr, IfOk};
 
 use crate::argument::Argument;
 use crate::ended_by::EndedBy;
+use cp_base::limits::MOST_REFERENCE;
 use cp_base::{GroupId, Items, NoMemory, Text, ThreadNo, write_decimal, write_signed};
-use cp_op_values::{
-    MOST_REFERENCE, append_members_text, append_numbered, append_reference, append_reference_text,
-    take_reference,
-};
-use cp_spelling::{
+use cp_grammar::{
     ReadError, Spelled, Stop, append_flag, append_i64, append_index, append_members, append_u8,
     append_u32, append_u64, take_flag, take_i64, take_index, take_members, take_u8, take_u32,
     take_u64,
+};
+use cp_op_values::{
+    append_members_text, append_numbered, append_reference, append_reference_text, take_reference,
 };
 use std::alloc::Global;
 
@@ -334,7 +334,7 @@ impl Answer {
         // What is spelled so is read, unless memory runs out.
         ensures only { (value : Answer) → answer_grammar.Fits value → bytes.now ≡ answer_grammar.spelling value → Tells result (Ok value) }
     {
-        cp_spelling::read(alloc, bytes)
+        cp_grammar::read(alloc, bytes)
     }
 
     /// Appends the one spelling, or leaves `out`.
@@ -343,13 +343,14 @@ impl Answer {
         ensures ok { OnOk result (out.new.items ≡ out.old.items ++ answer_grammar.spelling self.now) }
         ensures err { OnErr result (out.new.items ≡ out.old.items) }
     {
-        cp_spelling::write(self, out)
+        cp_grammar::write(self, out)
     }
 }
 
 /// No spelling of an answer begins another, so what was written is read again and the rest is left.
 pub fn no_answer_begins_another()
-    ensures { (x y : Answer) (a b : List ℕ) → answer_grammar.Fits x → answer_grammar.Fits y → answer_grammar.spelling x ++ a ≡ answer_grammar.spelling y ++ b → (x ≡ y) × (a ≡ b) }
+    ensures { (x y : Answer) (a b : List ℕ) → answer_grammar.Fits x → answer_grammar.Fits y → answer_grammar.spelling x
+        ++ a ≡ answer_grammar.spelling y ++ b → (x ≡ y) × (a ≡ b) }
 {
-    cp_spelling::no_spelling_begins_another::<Answer>()
+    cp_grammar::no_spelling_begins_another::<Answer>()
 }

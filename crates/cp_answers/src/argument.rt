@@ -3,7 +3,7 @@ ghost use Rattle.cp_answers.specs.Arguments.{argument};
 ghost use Rattle.cp_answers.specs.Laws.{argument_lawful};
 
 use cp_base::{NoMemory, Text};
-use cp_spelling::{Spelled, Stop, append_u8, take_u8};
+use cp_grammar::{Spelled, Stop, append_u8, take_u8};
 use std::alloc::Global;
 
 /// Which argument was bad.

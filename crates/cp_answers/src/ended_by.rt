@@ -3,7 +3,7 @@ ghost use Rattle.cp_answers.specs.EndedBys.{ended_by};
 ghost use Rattle.cp_answers.specs.Laws.{ended_by_lawful};
 
 use cp_base::{NoMemory, Text};
-use cp_spelling::{Spelled, Stop, append_u8, take_u8};
+use cp_grammar::{Spelled, Stop, append_u8, take_u8};
 use std::alloc::Global;
 
 /// Why it is not known whether a call took effect.

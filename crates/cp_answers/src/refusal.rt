@@ -2,14 +2,15 @@
 ghost use Rattle.cp_grammar.specs.Grammar.{whole};
 ghost use Rattle.cp_answers.specs.Laws.{refusal_lawful};
 ghost use Rattle.cp_answers.specs.Refusals.{refusal};
-ghost use Rattle.cp_spelling.specs.Readers.{Tells};
+ghost use Rattle.cp_grammar.specs.Readers.{Tells};
 ghost use Rattle.std.specs.Prelude.{◌≡◌, ◌++◌, List, ℕ, Ok, OnOk, OnErr, IfOk};
 
+use cp_base::limits::MOST_MEMBER;
 use cp_base::{NoMemory, Text};
-use cp_op_values::{MOST_MEMBER, append_numbered};
-use cp_spelling::{
+use cp_grammar::{
     ReadError, Spelled, Stop, append_index, append_u8, append_u32, take_index, take_u8, take_u32,
 };
+use cp_op_values::append_numbered;
 use std::alloc::Global;
 
 /// Why a member refuses a request. A refusal is no answer, and comes without an entry.
@@ -151,7 +152,7 @@ impl Refusal {
         // What is spelled so is read, unless memory runs out.
         ensures only { (value : Refusal) → refusal.Fits value → bytes.now ≡ refusal.spelling value → Tells result (Ok value) }
     {
-        cp_spelling::read(alloc, bytes)
+        cp_grammar::read(alloc, bytes)
     }
 
     /// Appends the one spelling, or leaves `out`.
@@ -160,13 +161,14 @@ impl Refusal {
         ensures ok { OnOk result (out.new.items ≡ out.old.items ++ refusal.spelling self.now) }
         ensures err { OnErr result (out.new.items ≡ out.old.items) }
     {
-        cp_spelling::write(self, out)
+        cp_grammar::write(self, out)
     }
 }
 
 /// No spelling of a refusal begins another, so what was written is read again and the rest is left.
 pub fn no_refusal_begins_another()
-    ensures { (x y : Refusal) (a b : List ℕ) → refusal.Fits x → refusal.Fits y → refusal.spelling x ++ a ≡ refusal.spelling y ++ b → (x ≡ y) × (a ≡ b) }
+    ensures { (x y : Refusal) (a b : List ℕ) → refusal.Fits x → refusal.Fits y → refusal.spelling x ++ a
+        ≡ refusal.spelling y ++ b → (x ≡ y) × (a ≡ b) }
 {
-    cp_spelling::no_spelling_begins_another::<Refusal>()
+    cp_grammar::no_spelling_begins_another::<Refusal>()
 }

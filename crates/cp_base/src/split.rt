@@ -1,6 +1,6 @@
 //! Texts that a byte parts.
 ghost use Rattle.std.specs.Prelude.{◌≡◌, ◌∷◌, ◌++◌, ◌==◌, MatchOption, position};
-ghost use Rattle.cp_words.specs.Text.{Lacks};
+ghost use Rattle.cp_base.specs.Text.{Lacks};
 
 fn place_of(byte: u8, text: &[u8]) -> Option<usize>
     ensures { result ≡ position (λ b. b == byte) text.now }

@@ -1,6 +1,6 @@
 //! Values that are printed as text.
 ghost use Rattle.std.specs.Prelude.{◌≡◌, ◌++◌, List, ℕ, OnOk, OnErr};
-ghost use Rattle.cp_words.specs.Text.{Grew};
+ghost use Rattle.cp_base.specs.Text.{Grew};
 
 use crate::NoMemory;
 

@@ -6,7 +6,7 @@ use Rattle.cp_op_values.specs.declared.kind.Kind.{Kind}
 use Rattle.cp_op_values.specs.declared.kind.Kind.TheVariants as kinds
 use Rattle.cp_object_ops.specs.declared.map_op.MapOp.{MapOp}
 use Rattle.cp_object_ops.specs.declared.map_op.MapOp.TheVariants as map_op
-use Rattle.cp_value_words.specs.Values.{key_word, value_word}
+use Rattle.cp_call_words.specs.Values.{key_word, value_word}
 use Rattle.cp_events.specs.declared.object.Object.{Object}
 use Rattle.cp_events.specs.declared.user_op.UserOp.{UserOp}
 use Rattle.cp_events.specs.declared.user_op.UserOp.TheVariants as user

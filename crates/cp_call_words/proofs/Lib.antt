@@ -1,2 +1,4 @@
 pub mod ObjectWords
 pub mod CallTexts
+pub mod SignedWords
+pub mod HexWords

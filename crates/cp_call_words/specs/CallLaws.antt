@@ -6,8 +6,8 @@ use Rattle.cp_codec.specs.Exact.{IsByte}
 use Rattle.cp_grammar.specs.Grammar.{Grammar, variant}
 use Rattle.cp_grammar.specs.Lawful.{IsLawful}
 use Rattle.cp_grammar.specs.Words.{Token, token, keyword}
-use Rattle.cp_grammar.proofs.Laws.{AreCases, enum_lawful}
-use Rattle.cp_grammar.proofs.WordLaws.{lawful_text, token_lawful, with_keyword}
+use Rattle.cp_grammar.specs.Laws.{AreCases, enum_lawful}
+use Rattle.cp_grammar.specs.WordLaws.{lawful_text, token_lawful, with_keyword}
 use Rattle.cp_op_values.specs.Values.{kind_text}
 use Rattle.cp_op_values.specs.declared.kind.Kind.{Kind}
 use Rattle.cp_op_values.specs.declared.kind.Kind.TheVariants as kinds
@@ -15,8 +15,8 @@ use Rattle.cp_events.specs.declared.object.Object.{Object}
 use Rattle.cp_events.specs.declared.user_op.UserOp.{UserOp}
 use Rattle.cp_events.specs.declared.user_op.UserOp.TheVariants as user
 use Rattle.cp_call_words.specs.declared.context.Context.{Context}
-use Rattle.cp_value_words.specs.Values.{group_word}
-use Rattle.cp_value_words.specs.ValueLaws.{name_word_lawful, group_word_lawful, member_line_lawful, member_space_lawful}
+use Rattle.cp_call_words.specs.Values.{group_word}
+use Rattle.cp_call_words.specs.ValueLaws.{name_word_lawful, group_word_lawful, member_line_lawful, member_space_lawful}
 use Rattle.cp_call_words.specs.Objects.{object_word}
 use Rattle.cp_call_words.specs.ObjectCalls.{long_word, long_calls, ref_word, ref_calls, lock_word, lock_calls, sem_word, sem_calls, latch_word, latch_calls, map_word, map_calls, on_object}
 use Rattle.cp_call_words.specs.ObjectCallLaws.{long_cases, ref_cases, lock_cases, sem_cases, latch_cases, map_cases, on_object_lawful}

@@ -22,7 +22,7 @@ use Rattle.cp_events.specs.declared.user_op.GroupCall.TheVariants as group_call
 use Rattle.cp_events.specs.declared.user_op.UserOp.{UserOp}
 use Rattle.cp_events.specs.declared.user_op.UserOp.TheVariants as user
 use Rattle.cp_call_words.specs.declared.context.Context.{Context}
-use Rattle.cp_value_words.specs.Values.{name_word, group_word, member_word, index_word}
+use Rattle.cp_call_words.specs.Values.{name_word, group_word, member_word, index_word}
 use Rattle.cp_call_words.specs.ObjectCalls.{long_word, long_calls, ref_word, ref_calls, lock_word, lock_calls, sem_word, sem_calls, latch_word, latch_calls, map_word, map_calls, on_object}
 
 -- A form that stands only where this holds, and fails at its first byte elsewhere.

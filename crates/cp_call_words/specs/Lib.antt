@@ -6,3 +6,5 @@ pub mod Apart
 pub mod Calls
 pub mod CallLaws
 pub mod Shown
+pub mod Values
+pub mod ValueLaws

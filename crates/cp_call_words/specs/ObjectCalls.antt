@@ -17,7 +17,7 @@ use Rattle.cp_events.specs.declared.user_op.SemCall.{SemCall}
 use Rattle.cp_events.specs.declared.user_op.SemCall.TheVariants as sem_call
 use Rattle.cp_events.specs.declared.user_op.LatchCall.{LatchCall}
 use Rattle.cp_events.specs.declared.user_op.LatchCall.TheVariants as latch_call
-use Rattle.cp_value_words.specs.Values.{between_word, signed_word, milliseconds, permits_word, key_word, value_word, reference_word}
+use Rattle.cp_call_words.specs.Values.{between_word, signed_word, milliseconds, permits_word, key_word, value_word, reference_word}
 use Rattle.cp_call_words.specs.Objects.{object_word}
 
 -- ---- atomic longs

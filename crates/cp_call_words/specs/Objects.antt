@@ -2,7 +2,7 @@
 use Rattle.std.specs.Prelude.{ℕ, Bool, true, cond, ◌&&◌, ◌==◌, List, [], ◌∷◌, ◌++◌, Option, Some, None}
 use Rattle.cp_grammar.specs.Grammar.{Grammar, checked, mapped}
 use Rattle.cp_grammar.specs.Words.{word}
-use Rattle.cp_value_words.specs.Values.{is_name, is_group}
+use Rattle.cp_call_words.specs.Values.{is_name, is_group}
 use Rattle.cp_events.specs.declared.object.Object.{Object}
 
 -- the bytes before the first @, and those from it on

@@ -2,14 +2,14 @@
 ghost use Rattle.std.specs.Prelude.{◌≡◌, ◌++◌, ◌∷◌, [], ℕ, true, false, Some, codes, OnOk};
 ghost use Rattle.cp_grammar.specs.Grammar.{Grammar};
 ghost use Rattle.cp_grammar.specs.Words.{Token, same_token};
-ghost use Rattle.cp_spelling.specs.Readers.{Reads};
+ghost use Rattle.cp_grammar.specs.Readers.{Reads};
 ghost use Rattle.cp_call_words.specs.ObjectCalls.{call_spelling, asked, on_object};
 ghost use Rattle.cp_call_words.specs.Shown.{named, with_group};
 
 use crate::object::{append_object, take_object};
 use cp_base::NoMemory;
 use cp_events::Object;
-use cp_spelling::{LINE, Stop, is_token, take_token};
+use cp_grammar::{LINE, Stop, is_token, take_token};
 use std::alloc::Global;
 
 /// What may be asked of the objects of a kind.
@@ -71,7 +71,8 @@ pub fn append_on<C: CallWords>(
     short: bool,
     out: &mut Vec<u8>,
 ) -> Result<(), NoMemory>
-    ensures { OnOk result (out.new.items ≡ out.old.items ++ (on_object true C.first C.calls).spelling (with_group (named short) object.now, Some call.now)) }
+    ensures { OnOk result (out.new.items ≡ out.old.items
+        ++ (on_object true C.first C.calls).spelling (with_group (named short) object.now, Some call.now)) }
 {
     append_object(object, short, out)?;
     call.append_call(out)?;

@@ -1,18 +1,18 @@
 //! Calls that name no object: about sessions, groups and members.
 ghost use Rattle.std.specs.Prelude.{◌≡◌, ◌++◌, true, OnOk};
-ghost use Rattle.cp_spelling.specs.Readers.{Reads};
+ghost use Rattle.cp_grammar.specs.Readers.{Reads};
 ghost use Rattle.cp_call_words.specs.Calls.{only_if, closing, on_group, on_member, on_change};
 ghost use Rattle.cp_call_words.specs.Shown.{named};
 
 use crate::object::named;
-use cp_base::{Name, NoMemory};
-use cp_events::GroupCall;
-use cp_ops::{ChangeOp, MemberOp};
-use cp_spelling::{LINE, SPACE, Stop, append_number_word, append_word, is_token, take_token};
-use cp_value_words::{
+use crate::{
     append_member_word, append_name_word, take_group_word, take_index_word, take_member_word,
     take_name_word,
 };
+use cp_base::{Name, NoMemory};
+use cp_events::GroupCall;
+use cp_grammar::{LINE, SPACE, Stop, append_number_word, append_word, is_token, take_token};
+use cp_ops::{ChangeOp, MemberOp};
 use std::alloc::Global;
 
 /// `close`, with a group or without, and the bytes after it.
@@ -36,7 +36,7 @@ pub fn take_closing(
 }
 
 /// Appends `close`, with a group or without.
-#[tactic(auto, unfolding(crate::specs::Calls::closing, cp_value_words::specs::Values::group_word))]
+#[tactic(auto, unfolding(crate::specs::Calls::closing, crate::specs::Values::group_word))]
 pub fn append_closing(group: &Option<Name>, short: bool, out: &mut Vec<u8>) -> Result<(), NoMemory>
     ensures { OnOk result (out.new.items ≡ out.old.items ++ (closing true).spelling (named short group.now)) }
 {

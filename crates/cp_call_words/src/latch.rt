@@ -3,11 +3,11 @@ ghost use Rattle.cp_call_words.specs.ObjectCalls.{latch_word, latch_calls};
 ghost use Rattle.cp_call_words.specs.Apart.{latch_apart};
 
 use crate::asking::CallWords;
+use crate::{take_between_word, take_milliseconds};
 use cp_base::NoMemory;
+use cp_base::limits::MOST_COUNT;
 use cp_events::LatchCall;
-use cp_op_values::MOST_COUNT;
-use cp_spelling::{LINE, SPACE, Stop, append_number_word, append_word, is_token};
-use cp_value_words::{take_between_word, take_milliseconds};
+use cp_grammar::{LINE, SPACE, Stop, append_number_word, append_word, is_token};
 use std::alloc::Global;
 
 impl CallWords for LatchCall {

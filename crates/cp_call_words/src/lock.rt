@@ -3,10 +3,10 @@ ghost use Rattle.cp_call_words.specs.ObjectCalls.{lock_word, lock_calls};
 ghost use Rattle.cp_call_words.specs.Apart.{lock_apart};
 
 use crate::asking::CallWords;
+use crate::take_milliseconds;
 use cp_base::NoMemory;
 use cp_events::LockCall;
-use cp_spelling::{LINE, SPACE, Stop, append_number_word, append_word, is_token};
-use cp_value_words::take_milliseconds;
+use cp_grammar::{LINE, SPACE, Stop, append_number_word, append_word, is_token};
 use std::alloc::Global;
 
 impl CallWords for LockCall {

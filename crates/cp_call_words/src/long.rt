@@ -3,11 +3,11 @@ ghost use Rattle.cp_call_words.specs.ObjectCalls.{long_word, long_calls};
 ghost use Rattle.cp_call_words.specs.Apart.{long_apart};
 
 use crate::asking::CallWords;
+use crate::{append_signed_word, take_signed_word};
 use cp_base::NoMemory;
 use cp_events::LongCall;
+use cp_grammar::{LINE, SPACE, Stop, append_word, is_token};
 use cp_object_ops::LongOp;
-use cp_spelling::{LINE, SPACE, Stop, append_word, is_token};
-use cp_value_words::{append_signed_word, take_signed_word};
 use std::alloc::Global;
 
 impl CallWords for LongCall {

@@ -1,15 +1,15 @@
 //! Calls of maps.
 ghost use Rattle.std.specs.Prelude.{◌≡◌, ◌++◌, ◌∷◌, [], OnOk};
-ghost use Rattle.cp_spelling.specs.Readers.{Reads};
-ghost use Rattle.cp_value_words.specs.Values.{key_word, value_word};
+ghost use Rattle.cp_grammar.specs.Readers.{Reads};
+ghost use Rattle.cp_call_words.specs.Values.{key_word, value_word};
 ghost use Rattle.cp_call_words.specs.ObjectCalls.{map_word, map_calls};
 ghost use Rattle.cp_call_words.specs.Apart.{map_apart};
 
 use crate::asking::CallWords;
+use crate::{append_hex_word, take_hex_word};
 use cp_base::{Items, NoMemory};
+use cp_grammar::{LINE, SPACE, Stop, append_word, is_token};
 use cp_object_ops::MapOp;
-use cp_spelling::{LINE, SPACE, Stop, append_word, is_token};
-use cp_value_words::{append_hex_word, take_hex_word};
 use std::alloc::Global;
 
 const MOST_KEY: usize = 64;
@@ -31,7 +31,7 @@ fn take_value(alloc: Global, bytes: &[u8], end: u8) -> Result<(Items<u8>, &[u8])
 }
 
 /// Appends a key, and the end after it.
-#[tactic(auto, unfolding(cp_value_words::specs::Values::hex_word))]
+#[tactic(auto, unfolding(crate::specs::Values::hex_word))]
 fn append_key(key: &Items<u8>, end: u8, out: &mut Vec<u8>) -> Result<(), NoMemory>
     ensures { OnOk result (out.new.items ≡ out.old.items ++ (key_word end).spelling key.now) }
 {
@@ -39,7 +39,7 @@ fn append_key(key: &Items<u8>, end: u8, out: &mut Vec<u8>) -> Result<(), NoMemor
 }
 
 /// Appends a value, and the end after it.
-#[tactic(auto, unfolding(cp_value_words::specs::Values::hex_word))]
+#[tactic(auto, unfolding(crate::specs::Values::hex_word))]
 fn append_value(value: &Items<u8>, end: u8, out: &mut Vec<u8>) -> Result<(), NoMemory>
     ensures { OnOk result (out.new.items ≡ out.old.items ++ (value_word end).spelling value.now) }
 {
@@ -53,7 +53,8 @@ fn append_pair(
     value: &Items<u8>,
     out: &mut Vec<u8>,
 ) -> Result<(), NoMemory>
-    ensures { OnOk result (out.new.items ≡ out.old.items ++ ((word.now ++ 32 ∷ []) ++ ((key_word 32).spelling key.now ++ (value_word 10).spelling value.now))) }
+    ensures { OnOk result (out.new.items ≡ out.old.items
+        ++ ((word.now ++ 32 ∷ []) ++ ((key_word 32).spelling key.now ++ (value_word 10).spelling value.now))) }
 {
     append_word(word, SPACE, out)?;
     append_key(key, SPACE, out)?;

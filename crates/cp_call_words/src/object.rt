@@ -1,14 +1,14 @@
 //! Objects as a call names them.
 ghost use Rattle.std.specs.Prelude.{◌≡◌, ◌++◌, ◌∷◌, [], true, false, OnOk, IfOk, MatchOption};
 ghost use Rattle.std.specs.Option.{option_copied};
-ghost use Rattle.cp_spelling.specs.Readers.{Reads};
+ghost use Rattle.cp_grammar.specs.Readers.{Reads};
 ghost use Rattle.cp_call_words.specs.Objects.{object_of, object_with, object_text, group_text, is_object, object_word};
 ghost use Rattle.cp_call_words.specs.Shown.{named, with_group};
 
+use crate::{is_word, read_group, read_name};
 use cp_base::{Name, NoMemory, split_at_byte};
 use cp_events::Object;
-use cp_spelling::{SPACE, Stop, take_word};
-use cp_value_words::{is_word, read_group, read_name};
+use cp_grammar::{SPACE, Stop, take_word};
 use std::alloc::Global;
 
 /// What stands before the first `@`, and what stands behind it.
@@ -29,7 +29,10 @@ fn read_parts(
     name: &[u8],
     group: Option<&[u8]>,
 ) -> Result<Option<Object>, NoMemory>
-    ensures { IfOk result (λ read. MatchOption read (is_object managed (object_with name.now (option_copied group.entry)) ≡ false) (λ object. (is_object managed (object_with name.now (option_copied group.entry)) ≡ true) × (object ≡ object_with name.now (option_copied group.entry)))) }
+    ensures { IfOk result (λ read.
+        MatchOption read (is_object managed (object_with name.now (option_copied group.entry)) ≡ false) (λ object.
+        (is_object managed (object_with name.now (option_copied group.entry)) ≡ true)
+        × (object ≡ object_with name.now (option_copied group.entry)))) }
 {
     let Some(name) = read_name(alloc, name)? else {
         return Ok(None);
@@ -48,7 +51,9 @@ fn read_parts(
 
 /// The object that a word is, where a call may name it.
 fn read_object(alloc: Global, managed: bool, word: &[u8]) -> Result<Option<Object>, NoMemory>
-    ensures { IfOk result (λ read. MatchOption read (is_object managed (object_of word.now) ≡ false) (λ object. (is_object managed (object_of word.now) ≡ true) × (object ≡ object_of word.now))) }
+    ensures { IfOk result (λ read.
+        MatchOption read (is_object managed (object_of word.now) ≡ false) (λ object.
+        (is_object managed (object_of word.now) ≡ true) × (object ≡ object_of word.now))) }
 {
     // Most calls name no group.
     if let Some(name) = read_name(alloc, word)? {

@@ -2,16 +2,16 @@
 ghost use Rattle.std.specs.Prelude.{◌≡◌};
 ghost use Rattle.cp_op_values.specs.declared.kind.Kind.TheVariants as kinds;
 ghost use Rattle.cp_events.specs.declared.user_op.UserOp.TheVariants as user;
-ghost use Rattle.cp_spelling.specs.Readers.{Reads};
+ghost use Rattle.cp_grammar.specs.Readers.{Reads};
 ghost use Rattle.cp_call_words.specs.Calls.{made, may_change, other_calls, user_calls, user_op};
 
 use crate::asking::take_on;
 use crate::context::Context;
 use crate::groups::{take_change_call, take_closing, take_group_call, take_member_call};
 use cp_events::{LatchCall, LockCall, LongCall, Object, RefCall, SemCall, UserOp};
+use cp_grammar::{SPACE, Stop, is_token, take_token};
 use cp_object_ops::MapOp;
 use cp_op_values::Kind;
-use cp_spelling::{SPACE, Stop, is_token, take_token};
 use std::alloc::Global;
 
 fn on_long(object: Object, call: Option<LongCall>) -> UserOp

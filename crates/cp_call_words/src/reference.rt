@@ -3,11 +3,11 @@ ghost use Rattle.cp_call_words.specs.ObjectCalls.{ref_word, ref_calls};
 ghost use Rattle.cp_call_words.specs.Apart.{ref_apart};
 
 use crate::asking::CallWords;
+use crate::{append_reference_word, take_reference_word};
 use cp_base::NoMemory;
 use cp_events::RefCall;
+use cp_grammar::{LINE, SPACE, Stop, append_word, is_token};
 use cp_object_ops::RefOp;
-use cp_spelling::{LINE, SPACE, Stop, append_word, is_token};
-use cp_value_words::{append_reference_word, take_reference_word};
 use std::alloc::Global;
 
 impl CallWords for RefCall {

@@ -10,8 +10,8 @@ use crate::groups::{append_change_call, append_closing, append_group_call, appen
 use crate::object::append_object;
 use cp_base::{NoMemory, Text};
 use cp_events::{Object, UserOp};
+use cp_grammar::{LINE, SPACE, append_word};
 use cp_op_values::Kind;
-use cp_spelling::{LINE, SPACE, append_word};
 
 /// Appends the call that destroys an object.
 fn append_destroy(

@@ -2,8 +2,8 @@
 use Rattle.std.specs.Prelude.{ℕ, ◌==◌, not, ◌&&◌, if◌then◌else◌, List, length, Option, Some, None}
 use Rattle.cp_answers.specs.declared.refusal.Refusal.{Refusal}
 use Rattle.cp_answers.specs.declared.refusal.Refusal.TheVariants.{AlreadyThere, NotThere, LastMember}
-use Rattle.cp_step.specs.declared.change.Change.{Change}
-use Rattle.cp_step.specs.Persistent.{is_member}
+use Rattle.cp_rules.specs.declared.change.Change.{Change}
+use Rattle.cp_rules.specs.Persistent.{is_member}
 
 -- for these members, the first that holds
 abbrev pub unfit : Change → List ℕ → Option Refusal

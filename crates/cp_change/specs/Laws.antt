@@ -1,7 +1,7 @@
 -- What a change leaves.
 use Rattle.std.specs.Prelude.{◌≡◌, ◌<◌, ◌≤◌, ℕ, Bool, true, ◌&&◌, List, [], ◌∷◌, length, None, nat_lt}
-use Rattle.cp_step.specs.declared.change.Change.{Change}
-use Rattle.cp_step.specs.Changes.{may_change, changed}
+use Rattle.cp_rules.specs.declared.change.Change.{Change}
+use Rattle.cp_rules.specs.Changes.{may_change, changed}
 
 -- numbers of members by rising number, each above a lowest and at most 9
 abbrev pub is_rising : ℕ → List ℕ → Bool

@@ -1,11 +1,11 @@
 //! The configuration that a change makes.
 ghost use Rattle.std.specs.Prelude.{◌≡◌, IfOk};
-ghost use Rattle.cp_step.specs.Changes.{with_member, without_member, changed};
+ghost use Rattle.cp_rules.specs.Changes.{with_member, without_member, changed};
 ghost use Rattle.cp_parts.specs.declared.config.Config.{Config};
 
 use cp_base::{Items, NoMemory};
 use cp_parts::Config;
-use cp_step::Change;
+use cp_rules::Change;
 use std::alloc::Global;
 
 /// Members with one more, by rising number.

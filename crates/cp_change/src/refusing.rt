@@ -1,12 +1,12 @@
 //! What refuses a change.
 ghost use Rattle.std.specs.Prelude.{◌≡◌, Some, None, MatchResult};
-ghost use Rattle.cp_step.specs.Changes.{may_change};
+ghost use Rattle.cp_rules.specs.Changes.{may_change};
 ghost use Rattle.cp_change.specs.Decisions.{unfit};
 
 use cp_answers::Refusal;
 use cp_election::is_member;
 use cp_parts::Config;
-use cp_step::Change;
+use cp_rules::Change;
 
 /// What refuses a change of these members, whatever the log.
 fn unfit(change: &Change, members: &[u8]) -> Option<Refusal>

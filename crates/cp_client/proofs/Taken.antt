@@ -7,7 +7,7 @@ use Rattle.std.specs.Map.{set_value}
 use Rattle.std.proofs.lemmas.Cmp.{nat_cmp_total}
 use Rattle.cp_group_state.specs.Rows.{find, put}
 use Rattle.cp_group_state.specs.Invariants.{IsRising}
-use Rattle.cp_table.proofs.Ordered.{put_there}
+use Rattle.cp_rows.proofs.Ordered.{put_there}
 use Rattle.cp_client_rules.specs.declared.rows.Thread.{Thread}
 use Rattle.cp_client_rules.specs.Clients.{or_new}
 use Rattle.cp_client.specs.Threads.{idle_row}

@@ -17,7 +17,7 @@ use cp_answers::Answer;
 use cp_base::{ClientId, GroupId, Invocation, NoMemory, ThreadNo};
 use cp_client_rules::{OwnSession, Pending, Purpose, Task};
 use cp_events::{Ending, Opened, Plan, Return};
-use cp_table::put_row;
+use cp_rows::put_row;
 
 /// What an answer lets a call do.
 #[derive(Clone, Copy, Debug, PartialEq, Eq)]
@@ -118,7 +118,8 @@ fn prepared(
     out: &mut ClientOut,
 ) -> Result<(), NoMemory>
     requires { HasRoom call.thread client.old }
-    ensures { OnOk result (Gives (prepared_by plan.now me (next_of purpose answer) number (call_of call) purpose answer client.old) client.new out.old out.new) }
+    ensures { OnOk result (Gives (prepared_by plan.now me (next_of purpose answer) number (call_of call) purpose answer
+        client.old) client.new out.old out.new) }
 {
     match next_of(purpose, &answer) {
         Next::WithSession(session) => go_on_in(client, plan, me, call, session, out),

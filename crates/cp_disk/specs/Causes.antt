@@ -3,7 +3,7 @@ use Rattle.std.specs.Prelude.{◌≡◌, ◌≤◌, ℕ, IfErr, OnErr}
 use Rattle.std.specs.declared.result.Result.{Result}
 use Rattle.cp_disk.specs.declared.disk.Fault.{Fault}
 use Rattle.cp_disk.specs.declared.disk.Fault.TheVariants as fault
-use Rattle.cp_words.specs.Faults.{Rose}
+use Rattle.cp_base.specs.Faults.{Rose}
 
 -- a fault that is counted as such, or a want of memory that is counted apart
 abbrev pub FaultCause : (before now starved_before starved_now : ℕ) → Fault → Type 0

@@ -1,6 +1,6 @@
 //! Which calls of a disk in memory fail, and what it counts.
 ghost use Rattle.std.specs.Prelude.{◌≡◌, ◌≤◌, ◌+◌, ◌<◌, ◌^◌, false, None, Some, OnErr, OnOk, is_err};
-ghost use Rattle.cp_words.specs.Faults.{Rose};
+ghost use Rattle.cp_base.specs.Faults.{Rose};
 ghost use Rattle.cp_disk.specs.Causes.{CountsFailures};
 
 use crate::disk::Failed;

@@ -1,13 +1,13 @@
 -- The rules do what is decided: each `if` one side after the other.
 use Rattle.std.proofs.Common.{◌≡◌, ◌==◌, ◌&&◌, not, ℕ, suc, Bool, true, false, [], length, refl, Some, None, nat_lt, if◌then◌else◌, option_map}
-use Rattle.cp_store_state.specs.Persistent.{last}
-use Rattle.cp_step.specs.Persistent.{StatePart, ballot, log_end, members, is_member}
-use Rattle.cp_step.specs.Volatile.{VolatileState, silence}
-use Rattle.cp_step.specs.Local.{does, reply, PreVoteReply, is_candidate, is_pre_candidate}
-use Rattle.cp_step.specs.Terms.{adopted, adopts}
-use Rattle.cp_step.specs.Leadership.{takes_leadership}
-use Rattle.cp_step.specs.PreVotes.{may_stand, is_up_to_date, grants_prevote, stands, with_vote, counts_prevote}
-use Rattle.cp_step.specs.Votes.{grants_vote, counts_vote}
+use Rattle.cp_log_rules.specs.Persistent.{last}
+use Rattle.cp_rules.specs.Persistent.{StatePart, ballot, log_end, members, is_member}
+use Rattle.cp_rules.specs.Volatile.{VolatileState, silence}
+use Rattle.cp_rules.specs.Local.{does, reply, PreVoteReply, is_candidate, is_pre_candidate}
+use Rattle.cp_rules.specs.Terms.{adopted, adopts}
+use Rattle.cp_rules.specs.Leadership.{takes_leadership}
+use Rattle.cp_rules.specs.PreVotes.{may_stand, is_up_to_date, grants_prevote, stands, with_vote, counts_prevote}
+use Rattle.cp_rules.specs.Votes.{grants_vote, counts_vote}
 use Rattle.cp_election.specs.declared.replying.VoteReplied.TheVariants.{Adopted, Counted, Ignored}
 use Rattle.cp_election.specs.declared.waiting.Stand.TheVariants.{Waits, Leads, Asks}
 use Rattle.cp_election.specs.declared.voting.VoteAnswer.{VoteAnswer}

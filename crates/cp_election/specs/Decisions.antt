@@ -1,13 +1,13 @@
 -- What is decided of elections, on plain numbers.
 use Rattle.std.specs.Prelude.{ℕ, suc, ◌==◌, Bool, true, false, not, ◌&&◌, if◌then◌else◌, List, length, Option, Some, None, nat_lt}
-use Rattle.cp_step.specs.declared.ballot.Ballot.{Ballot}
-use Rattle.cp_step.specs.declared.log_end.LogEnd.{LogEnd}
-use Rattle.cp_step.specs.declared.role.Role.{Role}
-use Rattle.cp_step.specs.Persistent.{is_member}
-use Rattle.cp_step.specs.Local.{is_candidate, is_pre_candidate}
-use Rattle.cp_step.specs.Terms.{adopted}
-use Rattle.cp_step.specs.PreVotes.{may_stand, is_up_to_date}
-use Rattle.cp_step.specs.Votes.{grants_vote}
+use Rattle.cp_rules.specs.declared.ballot.Ballot.{Ballot}
+use Rattle.cp_rules.specs.declared.log_end.LogEnd.{LogEnd}
+use Rattle.cp_rules.specs.declared.role.Role.{Role}
+use Rattle.cp_rules.specs.Persistent.{is_member}
+use Rattle.cp_rules.specs.Local.{is_candidate, is_pre_candidate}
+use Rattle.cp_rules.specs.Terms.{adopted}
+use Rattle.cp_rules.specs.PreVotes.{may_stand, is_up_to_date}
+use Rattle.cp_rules.specs.Votes.{grants_vote}
 use Rattle.cp_election.specs.declared.replying.VoteReplied.{VoteReplied}
 use Rattle.cp_election.specs.declared.replying.VoteReplied.TheVariants.{Adopted, Counted, Ignored}
 use Rattle.cp_election.specs.declared.waiting.Stand.{Stand}

@@ -1,15 +1,15 @@
 -- The rules do what is decided.
 use Rattle.std.specs.Prelude.{◌≡◌, ℕ, suc, Bool, true, false, [], None, option_map}
-use Rattle.cp_step.specs.declared.ballot.Ballot.{Ballot}
-use Rattle.cp_step.specs.declared.log_end.LogEnd.{LogEnd}
-use Rattle.cp_store_state.specs.Persistent.{PersistentState, last}
-use Rattle.cp_step.specs.Persistent.{StatePart, ballot, ballot_part, log_end, members}
-use Rattle.cp_step.specs.Volatile.{VolatileState, silence}
-use Rattle.cp_step.specs.Local.{LocalStep, does, reply, PreVoteReply, VoteReply}
-use Rattle.cp_step.specs.Terms.{steps_down_for, adopts}
-use Rattle.cp_step.specs.Leadership.{takes_leadership}
-use Rattle.cp_step.specs.PreVotes.{hears_no_leader, stands, times_out, on_prevote, on_prevote_reply, with_vote, counts_prevote}
-use Rattle.cp_step.specs.Votes.{on_vote, on_vote_reply, counts_vote}
+use Rattle.cp_rules.specs.declared.ballot.Ballot.{Ballot}
+use Rattle.cp_rules.specs.declared.log_end.LogEnd.{LogEnd}
+use Rattle.cp_log_rules.specs.Persistent.{PersistentState, last}
+use Rattle.cp_rules.specs.Persistent.{StatePart, ballot, ballot_part, log_end, members}
+use Rattle.cp_rules.specs.Volatile.{VolatileState, silence}
+use Rattle.cp_rules.specs.Local.{LocalStep, does, reply, PreVoteReply, VoteReply}
+use Rattle.cp_rules.specs.Terms.{steps_down_for, adopts}
+use Rattle.cp_rules.specs.Leadership.{takes_leadership}
+use Rattle.cp_rules.specs.PreVotes.{hears_no_leader, stands, times_out, on_prevote, on_prevote_reply, with_vote, counts_prevote}
+use Rattle.cp_rules.specs.Votes.{on_vote, on_vote_reply, counts_vote}
 use Rattle.cp_election.specs.declared.replying.VoteReplied.{VoteReplied}
 use Rattle.cp_election.specs.declared.replying.VoteReplied.TheVariants.{Adopted, Counted, Ignored}
 use Rattle.cp_election.specs.declared.waiting.Stand.{Stand}

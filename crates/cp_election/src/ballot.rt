@@ -1,9 +1,9 @@
 //! Adopting a term.
 ghost use Rattle.std.specs.Prelude.{◌≡◌, ◌&&◌, ◌==◌, not, nat_lt};
-ghost use Rattle.cp_step.specs.Terms.{adopted};
+ghost use Rattle.cp_rules.specs.Terms.{adopted};
 ghost use Rattle.cp_election.specs.Decisions.{to_write};
 
-use cp_step::Ballot;
+use cp_rules::Ballot;
 
 /// Whether a term is to be adopted.
 pub fn is_greater(term: u64, own: u64) -> bool

@@ -1,7 +1,7 @@
 //! Counting votes.
 ghost use Rattle.std.specs.Prelude.{◌≡◌, ◌==◌, ◌||◌, ◌<◌, true, length, count_by, slice_set};
-ghost use Rattle.cp_step.specs.Persistent.{is_quorum};
-ghost use Rattle.cp_step.specs.Volatile.{has_voted};
+ghost use Rattle.cp_rules.specs.Persistent.{is_quorum};
+ghost use Rattle.cp_rules.specs.Volatile.{has_voted};
 
 /// Whether a member is counted among the votes for `me`, which votes for itself.
 fn is_counted(me: u8, votes: &[bool; 10], member: u8) -> bool

@@ -1,8 +1,8 @@
 //! What a member begins with when it stands or takes leadership.
 ghost use Rattle.std.specs.Prelude.{◌≡◌, ◌<◌, ◌^◌, ◌-◌, suc};
-ghost use Rattle.cp_step.specs.Volatile.{everywhere, new_peer, no_votes};
+ghost use Rattle.cp_rules.specs.Volatile.{everywhere, new_peer, no_votes};
 
-use cp_step::Peer;
+use cp_rules::Peer;
 
 /// Nobody has voted yet.
 pub fn no_votes() -> [bool; 10]

@@ -1,5 +1,5 @@
 //! Elections: terms, pre-votes and votes, and when a member stands, as decisions on plain numbers. Each is that of the
-//! rule in `cp_step`, and laws say that the rule does what is decided.
+//! rule in `cp_rules`, and laws say that the rule does what is decided.
 #![tactic(auto)]
 
 ghost use Rattle.cp_election.specs.Laws.{TicksStandAsDecided, PreVotesGoAsDecided, PreVoteRepliesGoAsDecided, VotesGoAsDecided, VoteRepliesGoAsDecided, BallotsAreWritten};
@@ -10,15 +10,13 @@ mod leading;
 mod members;
 mod replying;
 mod role;
-#[cfg(test)]
-mod tests;
 mod voting;
 mod waiting;
 
 pub use ballot::{adopted, is_greater, to_write};
 pub use counting::{count_vote, has_quorum};
 pub use leading::{new_peer, new_peers, no_votes};
-pub use members::{is_member, others};
+pub use members::is_member;
 pub use replying::{VoteReplied, pre_vote_replied, vote_replied};
 pub use role::{is_candidate, is_leader, is_pre_candidate};
 pub use voting::{VoteAnswer, Would, grants_vote, hears_no_leader, is_up_to_date, pre_vote, vote};

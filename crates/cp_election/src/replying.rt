@@ -4,7 +4,7 @@ ghost use Rattle.cp_election.specs.Decisions.{pre_vote_replied, vote_replied};
 
 use crate::members::is_member;
 use crate::role::{is_candidate, is_pre_candidate};
-use cp_step::Role;
+use cp_rules::Role;
 
 /// What a reply to a pre-vote or a vote does.
 #[derive(Clone, Copy, Debug, PartialEq, Eq)]

@@ -1,8 +1,8 @@
 //! Which role a member has.
 ghost use Rattle.std.specs.Prelude.{◌≡◌};
-ghost use Rattle.cp_step.specs.Local.{is_leader, is_candidate, is_pre_candidate};
+ghost use Rattle.cp_rules.specs.Local.{is_leader, is_candidate, is_pre_candidate};
 
-use cp_step::Role;
+use cp_rules::Role;
 
 /// Whether this is the role of a leader.
 pub fn is_leader(role: Role) -> bool

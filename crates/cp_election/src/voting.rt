@@ -1,12 +1,12 @@
 //! Pre-votes and votes that a member is asked for.
 ghost use Rattle.std.specs.Prelude.{◌≡◌};
-ghost use Rattle.cp_step.specs.PreVotes.{is_up_to_date, hears_no_leader};
-ghost use Rattle.cp_step.specs.Votes.{grants_vote};
+ghost use Rattle.cp_rules.specs.PreVotes.{is_up_to_date, hears_no_leader};
+ghost use Rattle.cp_rules.specs.Votes.{grants_vote};
 ghost use Rattle.cp_election.specs.Decisions.{pre_vote, vote};
 
 use crate::ballot::adopted;
 use crate::role::is_leader;
-use cp_step::{Ballot, LogEnd, Role};
+use cp_rules::{Ballot, LogEnd, Role};
 
 /// How long a member that knows a leader refuses pre-votes after it heard of it, in milliseconds.
 const LEAST_TIMEOUT: u64 = 2_000;

@@ -1,6 +1,6 @@
 //! When a member stands for election.
 ghost use Rattle.std.specs.Prelude.{◌≡◌, ◌-◌};
-ghost use Rattle.cp_step.specs.PreVotes.{timeout, may_stand};
+ghost use Rattle.cp_rules.specs.PreVotes.{timeout, may_stand};
 ghost use Rattle.cp_election.specs.Decisions.{standing};
 
 use crate::members::is_member;

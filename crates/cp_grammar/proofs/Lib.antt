@@ -1,4 +1,5 @@
-pub mod Laws
-pub mod ListLaws
-pub mod FieldLaws
-pub mod WordLaws
+pub mod Found
+pub mod ItemLoop
+pub mod LineLoop
+pub mod Ends
+pub mod Digits

@@ -78,7 +78,7 @@ impl GroupTables {
     fn left_by(&self, ended: &[Waiter]) -> Result<Items<(Name, Kind)>, NoMemory>
         ensures { IfOk result (λ keys. keys ≡ left_by (ended_by ending.TimedOut ended.now) self.now) }
     {
-        let keys = cp_concerned::left_by(self.alloc, &self.semaphores, ended)?;
+        let keys = cp_semaphore::left_by(self.alloc, &self.semaphores, ended)?;
         Ok(keys)
     }
 

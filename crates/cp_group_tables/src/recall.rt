@@ -8,8 +8,8 @@ ghost use Rattle.cp_group_tables.specs.Recalls.{recalled};
 
 use cp_base::{Invocation, NoMemory};
 use cp_group_state::MemoryRow;
-use cp_memory::Memory;
 use cp_ops::Answer;
+use cp_remembered::Memory;
 
 /// What is remembered of a call.
 #[derive(Debug, Drop)]

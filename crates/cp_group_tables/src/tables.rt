@@ -4,11 +4,10 @@ ghost use Rattle.cp_group_state.specs.GroupState.{empty};
 
 use cp_atomic::{Longs, Refs};
 use cp_base::{GroupId, NoMemory};
-use cp_gone::Gone;
 use cp_latch::Latches;
 use cp_lock::Locks;
 use cp_map::Maps;
-use cp_memory::Memory;
+use cp_remembered::{Gone, Memory};
 use cp_semaphore::Semaphores;
 use cp_session::Sessions;
 use cp_wait::Waits;

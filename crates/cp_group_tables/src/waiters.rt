@@ -8,8 +8,8 @@ ghost use Rattle.cp_group_tables.specs.Endings.{ended_by};
 use crate::ending::Ending;
 use cp_base::{Invocation, Items, NoMemory};
 use cp_group_state::Waiter;
-use cp_memory::Memory;
 use cp_ops::Answer;
+use cp_remembered::Memory;
 use cp_wait::Waits;
 
 /// The rows of these waiters hold their answers, which are told.

@@ -2,7 +2,7 @@
 use Rattle.std.specs.Prelude.{◌≡◌, ◌≤◌, ℕ, List, length, Option, IfErr}
 use Rattle.std.specs.declared.result.Result.{Result}
 use Rattle.std.specs.Io.KnownBytes.{Consumes, IsAtEnd}
-use Rattle.cp_words.specs.Faults.{Rose, Exceeds}
+use Rattle.cp_base.specs.Faults.{Rose, Exceeds}
 use Rattle.cp_io.specs.declared.traits.Fault.{Fault}
 use Rattle.cp_io.specs.declared.traits.Fault.TheVariants as fault
 use Rattle.cp_io.specs.declared.reading.ReadEnd.{ReadEnd}

@@ -2,7 +2,7 @@
 ghost use Rattle.std.specs.Prelude.{◌≡◌, ◌<◌, List, ℕ, Option, length, IfOk};
 ghost use Rattle.std.specs.Io.{ReadsAtMost, WritesAtMost};
 ghost use Rattle.std.specs.Io.KnownBytes.{ReadConsumes, WriteAppends};
-ghost use Rattle.cp_words.specs.Faults.{CountsErrors, Rose};
+ghost use Rattle.cp_base.specs.Faults.{CountsErrors, Rose};
 ghost use Rattle.cp_io.specs.Causes.{CountsFaults};
 
 use thiserror::Error;

@@ -1,7 +1,7 @@
 //! Writing a whole text to a sink.
 ghost use Rattle.std.specs.Prelude.{◌≡◌, ◌≤◌, OnOk, OnErr, IfErr};
 ghost use Rattle.std.specs.Io.KnownBytes.{Appends};
-ghost use Rattle.cp_words.specs.Faults.{AppendsFront};
+ghost use Rattle.cp_base.specs.Faults.{AppendsFront};
 ghost use Rattle.cp_io.specs.Causes.{WriteCause};
 
 use crate::traits::{Fault, Sink};

@@ -3,7 +3,7 @@ use Rattle.std.specs.Prelude.{◌≤◌, ℕ, IfErr}
 use Rattle.std.specs.declared.result.Result.{Result}
 use Rattle.cp_disk.specs.declared.disk.Fault.{Fault}
 use Rattle.cp_disk.specs.declared.disk.Fault.TheVariants as fault
-use Rattle.cp_words.specs.Faults.{Rose}
+use Rattle.cp_base.specs.Faults.{Rose}
 
 abbrev pub RunCause : (before now starved_before starved_now : ℕ) → Fault → Type 0
 RunCause before now starved_before starved_now fault.Failed = Rose before now

@@ -3,7 +3,7 @@ use Rattle.std.specs.Prelude.{◌≡◌, ◌≤◌, ℕ, List, Err, IfErr}
 use Rattle.std.specs.declared.result.Result.{Result}
 use Rattle.cp_journal.specs.declared.error.JournalError.{JournalError}
 use Rattle.cp_journal.specs.declared.error.JournalError.TheVariants as error
-use Rattle.cp_words.specs.Faults.{Rose}
+use Rattle.cp_base.specs.Faults.{Rose}
 
 -- a disk fault comes only where the disk's count rose
 abbrev pub DiskCause : (before now : ℕ) → JournalError → Type 0

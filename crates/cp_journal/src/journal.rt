@@ -1,6 +1,6 @@
 //! The journal.
 ghost use Rattle.std.specs.Prelude.{false, Some, ◌≡◌, ◌≢◌, ◌≤◌, ◌<◌, ◌+◌, ◌-◌, ◌^◌, ◌↔◌, List, ℕ, length, IfOk, IfErr, MatchResult, OnOk, IsErrOf};
-ghost use Rattle.cp_words.specs.Faults.{Rose};
+ghost use Rattle.cp_base.specs.Faults.{Rose};
 ghost use Rattle.cp_disk.specs.Images.{Elapses, NoMore, Only};
 ghost use Rattle.cp_journal.specs.Errors.{CountsDisk, OpenCause};
 ghost use Rattle.cp_journal.specs.declared.error.JournalError.TheVariants as error;

@@ -5,9 +5,8 @@ mod counted;
 mod latch;
 mod latches;
 mod rounds;
-#[cfg(test)]
-mod tests;
 
 pub use counted::Counted;
+pub use cp_group_state::LatchOutcome;
 pub use latch::Latch;
-pub use latches::{LatchOutcome, Latches};
+pub use latches::Latches;

@@ -8,8 +8,8 @@ use Rattle.cp_journal.specs.Moments.{LeavesOnly}
 use Rattle.cp_journal.specs.Opening.{IsOpened}
 use Rattle.cp_journal.specs.Records.{records_of}
 use Rattle.cp_journal.proofs.Moments.{weaker}
-use Rattle.cp_store_state.specs.Durable.{DurableState}
-use Rattle.cp_store_state.specs.Recovery.{state_of_bodies}
+use Rattle.cp_log_rules.specs.Durable.{DurableState}
+use Rattle.cp_log_rules.specs.Recovery.{state_of_bodies}
 use Rattle.cp_log.specs.declared.error.StoreError.{StoreError}
 use Rattle.cp_log.specs.declared.error.StoreError.TheVariants as error
 use Rattle.cp_log.specs.declared.recovery.BadBody.{BadBody}

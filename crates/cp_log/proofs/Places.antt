@@ -3,13 +3,13 @@ use Rattle.std.proofs.Common.{◌≡◌, ◌≤◌, ◌<◌, ◌+◌, ◌*◌, �
 use Rattle.std.specs.Prelude.{Option, Some, None, Result, Ok, Err}
 use Rattle.std.specs.declared.alloc.Global.{Global}
 use Rattle.cp_journal.specs.Found.{lists}
-use Rattle.cp_store_state.proofs.Recoveries.{restart_bound}
+use Rattle.cp_log_rules.proofs.Recoveries.{restart_bound}
 use Rattle.cp_journal.specs.Frames.{AreFrames, IsAtRest}
 use Rattle.cp_journal.specs.Records.{records_of}
 use Rattle.cp_journal.proofs.Resting.{resting}
 use Rattle.cp_journal.proofs.Walks.{closed_records}
-use Rattle.cp_store_state.specs.Durable.{DurableState}
-use Rattle.cp_store_state.specs.Recovery.{after_body, or_bad, recovered_from}
+use Rattle.cp_log_rules.specs.Durable.{DurableState}
+use Rattle.cp_log_rules.specs.Recovery.{after_body, or_bad, recovered_from}
 use Rattle.cp_log.specs.Files.{sizes}
 
 frames_end : (bodies : List (List ℕ)) (gate end : ℕ) (file : List ℕ) → AreFrames bodies gate end file → end ≡ gate + sizes bodies

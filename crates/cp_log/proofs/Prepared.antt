@@ -9,14 +9,14 @@ use Rattle.cp_parts.specs.declared.config.Config.{Config}
 use Rattle.cp_parts.specs.declared.log_entry.LogEntry.{LogEntry}
 use Rattle.cp_parts.specs.declared.part.Part.TheVariants as part
 use Rattle.cp_parts.specs.Parts.{part_grammar}
-use Rattle.cp_spelling.specs.Common.{index}
+use Rattle.cp_grammar.specs.Common.{index}
 use Rattle.cp_base.specs.declared.identifier.GroupId.{GroupId}
 use Rattle.std.specs.Ordering.{nat_cmp}
 use Rattle.std.specs.BTreeMap.{get, is_at}
-use Rattle.cp_store_state.specs.Durable.{DurableState, group_at, with_group}
-use Rattle.cp_store_state.specs.Persistent.{PersistentState, with_entries}
-use Rattle.cp_store_state.specs.Configurations.{configs_in}
-use Rattle.cp_store_state.specs.Legal.{if_stands, may_append, may_snapshot}
+use Rattle.cp_log_rules.specs.Durable.{DurableState, group_at, with_group}
+use Rattle.cp_log_rules.specs.Persistent.{PersistentState, with_entries}
+use Rattle.cp_log_rules.specs.Configurations.{configs_in}
+use Rattle.cp_log_rules.specs.Legal.{if_stands, may_append, may_snapshot}
 use Rattle.cp_log.specs.declared.row.Row.{Row}
 use Rattle.cp_log.specs.Room.{HasRoom}
 use Rattle.cp_log.specs.Rows.{FitsBehind, rows_of, state_of}

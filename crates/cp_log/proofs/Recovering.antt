@@ -4,8 +4,8 @@ use Rattle.std.specs.Prelude.{Option, Some, None, Result, Ok, Err, min}
 use Rattle.std.specs.declared.alloc.Global.{Global}
 use Rattle.std.proofs.lemmas.Grind.{common_steps}
 use Rattle.cp_journal.specs.Found.{lists}
-use Rattle.cp_store_state.specs.Durable.{DurableState}
-use Rattle.cp_store_state.specs.Recovery.{after_body, recovered_from}
+use Rattle.cp_log_rules.specs.Durable.{DurableState}
+use Rattle.cp_log_rules.specs.Recovery.{after_body, recovered_from}
 
 behind_first : (body : Vec ℕ Global) (rest : List (Vec ℕ Global)) → take (length (body ∷ rest) - 1) rest ≡ rest
 behind_first body rest = grind (arith, common_steps)

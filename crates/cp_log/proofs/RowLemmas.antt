@@ -3,9 +3,9 @@ use Rattle.std.proofs.Common.{◌≡◌, ◌≤◌, ◌<◌, ◌+◌, ◌-◌, �
 use Rattle.std.specs.Prelude.{Bool, true, false, Some, None, nat_le, nat_lt, slice_get, slice_index_or, if◌then◌else◌}
 use Rattle.cp_parts.specs.declared.config.Config.{Config}
 use Rattle.cp_parts.specs.declared.log_entry.LogEntry.{LogEntry}
-use Rattle.cp_store_state.specs.Persistent.{is_term}
-use Rattle.cp_store_state.specs.Configurations.{config_after, configs_in, last_within}
-use Rattle.cp_store_state.proofs.InForce.{config_found, count_within, last_found}
+use Rattle.cp_log_rules.specs.Persistent.{is_term}
+use Rattle.cp_log_rules.specs.Configurations.{config_after, configs_in, last_within}
+use Rattle.cp_log_rules.proofs.InForce.{config_found, count_within, last_found}
 
 -- ---- the configuration in force
 

@@ -12,8 +12,8 @@ use Rattle.std.specs.Map.{keys_of, lookup, remove_entry, set_value}
 use Rattle.std.specs.Set.{remove_key}
 use Rattle.std.proofs.lemmas.Bool.Decides.{nat_tests}
 use Rattle.std.proofs.lemmas.Map.Steps.{set_value_same}
-use Rattle.cp_store_state.specs.Persistent.{PersistentState}
-use Rattle.cp_store_state.specs.Durable.{changed_at, or_nobody}
+use Rattle.cp_log_rules.specs.Persistent.{PersistentState}
+use Rattle.cp_log_rules.specs.Durable.{changed_at, or_nobody}
 use Rattle.cp_log.specs.declared.row.Row.{Row}
 use Rattle.cp_log.specs.Rows.{rows_of, state_of}
 

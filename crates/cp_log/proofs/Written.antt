@@ -3,23 +3,23 @@ use Rattle.std.proofs.Common.{◌≡◌, ◌≤◌, ◌<◌, ◌+◌, ◌^◌, i
 use Rattle.std.specs.Prelude.{Bool, true, false, ◌⊎◌, ◌↔◌, Result, Ok, Err, IsTrue, IsErrOf, IfErr, OnOk, is_ok, if◌then◌else◌}
 use Rattle.std.proofs.lemmas.Bool.{cases_lt}
 use Rattle.cp_grammar.specs.Grammar.{whole}
-use Rattle.cp_grammar.proofs.Laws.{whole_again}
+use Rattle.cp_grammar.specs.Laws.{whole_again}
 use Rattle.cp_codec.specs.Exact.{IsByte}
 use Rattle.cp_disk.specs.Images.{Only}
 use Rattle.cp_journal.specs.Moments.{LeavesOnly}
 use Rattle.cp_journal.proofs.Moments.{started, weaker}
 use Rattle.cp_journal.specs.Records.{IsBody, IsBeforeOrAfter, and_record, records_of}
 use Rattle.cp_codec.specs.Fields.{big_endian}
-use Rattle.cp_spelling.specs.Common.{group_id, index}
+use Rattle.cp_grammar.specs.Common.{group_id, index}
 use Rattle.cp_parts.specs.declared.part.Part.{Part}
 use Rattle.cp_parts.specs.declared.part.Part.TheVariants as part
 use Rattle.cp_log.specs.Changes.{is_state}
 use Rattle.cp_parts.specs.Parts.{part_grammar}
 use Rattle.cp_parts.specs.Laws.{part_lawful}
-use Rattle.cp_store_state.specs.Durable.{DurableState, with_part}
-use Rattle.cp_store_state.specs.Legal.{is_legal}
-use Rattle.cp_store_state.specs.Recovery.{state_of_bodies}
-use Rattle.cp_store_state.proofs.Recoveries.{body_of_part, one_more}
+use Rattle.cp_log_rules.specs.Durable.{DurableState, with_part}
+use Rattle.cp_log_rules.specs.Legal.{is_legal}
+use Rattle.cp_log_rules.specs.Recovery.{state_of_bodies}
+use Rattle.cp_log_rules.proofs.Recoveries.{body_of_part, one_more}
 use Rattle.cp_log.specs.declared.error.StoreError.{StoreError}
 use Rattle.cp_log.specs.declared.error.StoreError.TheVariants as error
 use Rattle.cp_log.specs.Causes.{WriteCause, is_fault}

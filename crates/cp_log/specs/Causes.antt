@@ -1,8 +1,8 @@
 -- When a call of a store may answer an error.
 use Rattle.std.specs.Prelude.{◌≡◌, ◌≤◌, ℕ, Bool, true, false, Ok, Err, IfErr}
 use Rattle.std.specs.declared.result.Result.{Result}
-use Rattle.cp_words.specs.Faults.{Rose}
-use Rattle.cp_store_state.specs.Durable.{DurableState}
+use Rattle.cp_base.specs.Faults.{Rose}
+use Rattle.cp_log_rules.specs.Durable.{DurableState}
 use Rattle.cp_log.specs.declared.error.StoreError.{StoreError}
 use Rattle.cp_log.specs.declared.error.StoreError.TheVariants as error
 

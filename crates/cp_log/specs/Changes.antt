@@ -7,8 +7,8 @@ use Rattle.std.specs.Set.{remove_key}
 use Rattle.cp_base.specs.declared.identifier.GroupId.{GroupId}
 use Rattle.cp_parts.specs.declared.part.Part.{Part}
 use Rattle.cp_parts.specs.declared.part.Part.TheVariants as part
-use Rattle.cp_store_state.specs.Persistent.{with_ballot, with_entries, with_head}
-use Rattle.cp_store_state.specs.Durable.{DurableState, with_group}
+use Rattle.cp_log_rules.specs.Persistent.{with_ballot, with_entries, with_head}
+use Rattle.cp_log_rules.specs.Durable.{DurableState, with_group}
 use Rattle.cp_log.specs.declared.change.Change.{Change}
 use Rattle.cp_log.specs.declared.change.Change.TheVariants as change
 use Rattle.cp_log.specs.declared.durable.Durable.{Durable}

@@ -1,5 +1,5 @@
 -- What the store's memory stands for.
-use Rattle.cp_store_state.specs.Durable.{DurableState}
+use Rattle.cp_log_rules.specs.Durable.{DurableState}
 use Rattle.cp_log.specs.declared.durable.Durable.{Durable}
 use Rattle.cp_log.specs.Rows.{rows_of}
 

@@ -2,8 +2,8 @@
 use Rattle.std.specs.Prelude.{◌≡◌, ◌+◌, ◌⊎◌, ℕ, List, [], ◌∷◌, length, Result, Ok, Err}
 use Rattle.cp_journal.specs.Records.{records_of}
 use Rattle.cp_parts.specs.declared.part.Part.TheVariants as part
-use Rattle.cp_store_state.specs.Durable.{DurableState, with_part}
-use Rattle.cp_store_state.specs.Recovery.{state_of_bodies}
+use Rattle.cp_log_rules.specs.Durable.{DurableState, with_part}
+use Rattle.cp_log_rules.specs.Recovery.{state_of_bodies}
 use Rattle.cp_log.specs.declared.error.StoreError.{StoreError}
 use Rattle.cp_log.specs.declared.error.StoreError.TheVariants as error
 

@@ -1,6 +1,6 @@
 -- Why bodies stand for nothing.
 use Rattle.std.specs.Prelude.{◌≡◌, ℕ, ◌-◌, ◌^◌, min, Result, Err}
-use Rattle.cp_store_state.specs.Durable.{DurableState}
+use Rattle.cp_log_rules.specs.Durable.{DurableState}
 use Rattle.cp_log.specs.declared.recovery.BadBody.{BadBody}
 use Rattle.cp_log.specs.declared.recovery.BadBody.TheVariants as bad
 

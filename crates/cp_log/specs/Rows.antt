@@ -4,9 +4,9 @@ use Rattle.std.specs.declared.alloc.Global.{Global}
 use Rattle.std.specs.declared.collections.VecDeque.{VecDeque}
 use Rattle.cp_parts.specs.declared.config.Config.{Config}
 use Rattle.cp_parts.specs.declared.log_entry.LogEntry.{LogEntry}
-use Rattle.cp_store_state.specs.Configurations.{configs_in}
+use Rattle.cp_log_rules.specs.Configurations.{configs_in}
 use Rattle.cp_log.specs.Room.{HasRoom}
-use Rattle.cp_store_state.specs.Persistent.{PersistentState}
+use Rattle.cp_log_rules.specs.Persistent.{PersistentState}
 use Rattle.cp_log.specs.declared.row.Row.{Row}
 
 -- the state of the row's group

@@ -2,7 +2,7 @@
 use Rattle.std.specs.Prelude.{Bool, ℕ}
 use Rattle.cp_disk.specs.declared.disk.Disk.{Ghosts}
 use Rattle.cp_journal.specs.Journals as journals
-use Rattle.cp_store_state.specs.Durable.{DurableState, first_state}
+use Rattle.cp_log_rules.specs.Durable.{DurableState, first_state}
 use Rattle.cp_log.specs.declared.store.Store.{Store}
 use Rattle.cp_log.specs.Durables.{durable_of}
 

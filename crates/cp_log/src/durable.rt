@@ -5,8 +5,8 @@ ghost use Rattle.std.specs.Ordering.{nat_cmp};
 ghost use Rattle.std.specs.BTreeMap.{get, insert_entry, is_at};
 ghost use Rattle.std.specs.BTreeSet.{insert_key};
 ghost use Rattle.std.specs.Map.{keys_of, remove_entry};
-ghost use Rattle.cp_store_state.specs.Persistent.{new_group};
-ghost use Rattle.cp_store_state.specs.Durable.{group_at, has_ended};
+ghost use Rattle.cp_log_rules.specs.Persistent.{new_group};
+ghost use Rattle.cp_log_rules.specs.Durable.{group_at, has_ended};
 
 use crate::change::Change;
 use crate::row::Row;

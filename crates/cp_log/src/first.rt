@@ -1,6 +1,6 @@
 //! What stands before the first part.
 ghost use Rattle.std.specs.Prelude.{false, true, ◌≡◌, IfOk};
-ghost use Rattle.cp_store_state.specs.Durable.{first_groups, first_members, first_state};
+ghost use Rattle.cp_log_rules.specs.Durable.{first_groups, first_members, first_state};
 ghost use Rattle.cp_log.specs.Rows.{rows_of};
 
 use crate::durable::Durable;

@@ -1,13 +1,13 @@
 //! Which part may follow.
-ghost use Rattle.std.specs.Prelude.{◌≡◌, ℕ, List, length, IfOk};
+ghost use Rattle.std.specs.Prelude.{◌≡◌, List, length, IfOk};
 ghost use Rattle.cp_parts.specs.declared.log_entry.LogEntry.{LogEntry as Entry};
-ghost use Rattle.cp_store_state.specs.Legal as legal;
-ghost use Rattle.cp_store_state.specs.Durable.{group_at};
+ghost use Rattle.cp_log_rules.specs.Legal as legal;
+ghost use Rattle.cp_log_rules.specs.Durable.{group_at};
 
 use crate::durable::Durable;
 use cp_base::NoMemory;
+use cp_base::limits::LAST_NUMBER;
 use cp_parts::{LogEntry, Part, head_of_snapshot};
-use cp_spelling::MOST_INDEX;
 use std::alloc::Global;
 
 /// The most bytes of an entry in the first format; the second format has twice as many.
@@ -43,7 +43,7 @@ impl Durable {
                 row.term <= term
                     && row.base <= after
                     && after <= row.last()
-                    && count as u64 <= MOST_INDEX - after
+                    && count as u64 <= LAST_NUMBER - after
             }
             None => false,
         }

@@ -3,10 +3,10 @@ ghost use Rattle.std.specs.Prelude.{true, ◌≡◌, ◌≤◌, ◌+◌, ◌^◌
 ghost use Rattle.cp_parts.specs.declared.config.Config.{Config as Configuration};
 ghost use Rattle.cp_parts.specs.Configs.{config_in};
 ghost use Rattle.cp_parts.specs.Parts.{part_grammar};
-ghost use Rattle.cp_store_state.specs.Persistent.{with_entries, with_snapshot};
-ghost use Rattle.cp_store_state.specs.Configurations.{configs_in, with_config};
-ghost use Rattle.cp_store_state.specs.Durable.{group_at, with_group, with_part};
-ghost use Rattle.cp_store_state.specs.Legal.{if_stands, is_legal, may_append, may_snapshot};
+ghost use Rattle.cp_log_rules.specs.Persistent.{with_entries, with_snapshot};
+ghost use Rattle.cp_log_rules.specs.Configurations.{configs_in, with_config};
+ghost use Rattle.cp_log_rules.specs.Durable.{group_at, with_group, with_part};
+ghost use Rattle.cp_log_rules.specs.Legal.{if_stands, is_legal, may_append, may_snapshot};
 
 use crate::change::Change;
 use crate::durable::Durable;
@@ -33,7 +33,7 @@ fn push_config(
 }
 
 /// The configurations that entries behind an index bring.
-#[tactic(auto, unfolding(cp_store_state::specs::Configurations::configs_in))]
+#[tactic(auto, unfolding(cp_log_rules::specs::Configurations::configs_in))]
 fn configs_of(alloc: Global, after: u64, entries: &[LogEntry]) -> Result<VecDeque<Config>, NoMemory>
     requires { after + length entries.now ≤ 2 ^ 62 }
     ensures { IfOk result (λ configs. configs.items ≡ configs_in after entries.now) }

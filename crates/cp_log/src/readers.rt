@@ -2,10 +2,10 @@
 ghost use Rattle.std.specs.Prelude.{true, ◌≡◌, ◌≤◌, ◌==◌, None, Some, IfOk, map, if◌then◌else◌};
 ghost use Rattle.std.specs.Option.{option_copied, option_map};
 ghost use Rattle.std.specs.Map.{keys_of};
-ghost use Rattle.cp_store_state.specs.Persistent.{entry_at, last, term_at};
-ghost use Rattle.cp_store_state.specs.Configurations.{config_at};
-ghost use Rattle.cp_store_state.specs.Durable.{group_at, group_in, has_ended, has_group};
-ghost use Rattle.cp_store_state.specs.Legal.{is_legal};
+ghost use Rattle.cp_log_rules.specs.Persistent.{entry_at, last, term_at};
+ghost use Rattle.cp_log_rules.specs.Configurations.{config_at};
+ghost use Rattle.cp_log_rules.specs.Durable.{group_at, group_in, has_ended, has_group};
+ghost use Rattle.cp_log_rules.specs.Legal.{is_legal};
 ghost use Rattle.cp_log.specs.Rows.{state_of};
 ghost use Rattle.cp_log.specs.Stores.{held_by};
 

@@ -1,16 +1,16 @@
 //! Opening: what the bodies of a journal stand for.
 ghost use Rattle.std.specs.Prelude.{◌≡◌, Some, None, Ok, IfOk, MatchResult, if◌then◌else◌};
 ghost use Rattle.cp_journal.specs.Found.{lists};
-ghost use Rattle.cp_store_state.specs.Durable.{first_state};
+ghost use Rattle.cp_log_rules.specs.Durable.{first_state};
 ghost use Rattle.cp_parts.specs.Parts.{part_grammar};
-ghost use Rattle.cp_store_state.specs.Recovery.{after_body, after_part, state_of_bodies};
+ghost use Rattle.cp_log_rules.specs.Recovery.{after_body, after_part, state_of_bodies};
 ghost use Rattle.cp_log.specs.Durables.{durable_of};
 ghost use Rattle.cp_log.specs.Recoveries.{BodyCause};
 
 use crate::durable::Durable;
 use cp_base::NoMemory;
+use cp_grammar::{ReadError, read};
 use cp_parts::Part;
-use cp_spelling::{ReadError, read};
 use std::alloc::Global;
 
 /// Why the bodies of a journal stand for nothing.
@@ -36,7 +36,7 @@ impl Durable {
     }
 
     /// Takes a body that spells a part that may follow.
-    #[tactic(auto, unfolding(cp_store_state::specs::Recovery::after_body))]
+    #[tactic(auto, unfolding(cp_log_rules::specs::Recovery::after_body))]
     fn take_body(&mut self, alloc: Global, body: &[u8]) -> Result<bool, NoMemory>
         ensures { IfOk result (λ good. after_body body.now (durable_of self.old) ≡ (if good then Some (durable_of self.new) else None)) }
     {

@@ -2,9 +2,9 @@
 ghost use Rattle.std.specs.Prelude.{true, ◌≡◌, ◌≤◌, ◌<◌, ◌+◌, ◌^◌, ◌++◌, [], length, drop, Some, if◌then◌else◌, OnOk};
 ghost use Rattle.std.specs.Option.{option_copied};
 ghost use Rattle.std.specs.List.Sorted.{IsNonDecreasingBy};
-ghost use Rattle.cp_store_state.specs.Persistent.{new_group, last, entry_at, term_at, is_term, with_ballot, with_entries, with_head};
-ghost use Rattle.cp_store_state.specs.Configurations.{config_at, configs_in};
-ghost use Rattle.cp_store_state.proofs.InForce.{count_within};
+ghost use Rattle.cp_log_rules.specs.Persistent.{new_group, last, entry_at, term_at, is_term, with_ballot, with_entries, with_head};
+ghost use Rattle.cp_log_rules.specs.Configurations.{config_at, configs_in};
+ghost use Rattle.cp_log_rules.proofs.InForce.{count_within};
 ghost use Rattle.cp_log.specs.Room.{HasRoom};
 
 use cp_base::{Items, NoMemory};
@@ -74,7 +74,7 @@ impl Row {
     ghost use Rattle.cp_log.specs.Rows.{state_of};
 
     /// A group that has just begun, with these members.
-    #[tactic(auto, unfolding(cp_store_state::specs::Configurations::configs_in))]
+    #[tactic(auto, unfolding(cp_log_rules::specs::Configurations::configs_in))]
     pub fn new(alloc: Global, first: Items<u8>) -> Row
         ensures { state_of result ≡ new_group first }
     {

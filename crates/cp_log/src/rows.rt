@@ -6,8 +6,8 @@ ghost use Rattle.std.specs.BTreeMap.{get, insert_entry, is_at};
 ghost use Rattle.std.specs.BTreeSet.{insert_key};
 ghost use Rattle.std.specs.Map.{keys_of, lookup, remove_entry};
 ghost use Rattle.std.specs.Set.{remove_key};
-ghost use Rattle.cp_store_state.specs.Persistent.{new_group, with_ballot, with_entries, with_head};
-ghost use Rattle.cp_store_state.specs.Durable.{changed_at};
+ghost use Rattle.cp_log_rules.specs.Persistent.{new_group, with_ballot, with_entries, with_head};
+ghost use Rattle.cp_log_rules.specs.Durable.{changed_at};
 ghost use Rattle.cp_log.specs.Room.{HasRoom};
 ghost use Rattle.cp_log.specs.Rows.{rows_of, FitsBehind};
 

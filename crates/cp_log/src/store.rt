@@ -1,13 +1,13 @@
 //! The store.
 ghost use Rattle.std.specs.Prelude.{Bool, true, false, [], ◌≡◌, ◌≤◌, ◌<◌, ◌+◌, ◌^◌, ◌⊎◌, ℕ, List, length, Some, None, Ok, Err, IfOk, IfErr, IsOk, is_ok, MatchResult, OnOk, OnErr, IsErrOf, IsTrue, if◌then◌else◌};
-ghost use Rattle.cp_words.specs.Faults.{Rose};
+ghost use Rattle.cp_base.specs.Faults.{Rose};
 ghost use Rattle.cp_disk.specs.Images.{Only, NoMore, Elapses};
 ghost use Rattle.cp_journal.specs.Journals as journals;
 ghost use Rattle.cp_journal.specs.Moments.{LeavesOnly};
 ghost use Rattle.cp_journal.specs.Records.{records_of};
 ghost use Rattle.cp_parts.specs.Parts.{part_grammar};
-ghost use Rattle.cp_store_state.specs.Durable.{first_state, with_part};
-ghost use Rattle.cp_store_state.specs.Legal.{is_legal};
+ghost use Rattle.cp_log_rules.specs.Durable.{first_state, with_part};
+ghost use Rattle.cp_log_rules.specs.Legal.{is_legal};
 ghost use Rattle.cp_log.specs.declared.error.StoreError.TheVariants as error;
 ghost use Rattle.cp_log.specs.Causes.{Counts, IsNotBad, OpenCause, WriteCause, is_fault};
 ghost use Rattle.cp_log.specs.Changes.{Fits, IsReady, committed, cancelled, is_state};

@@ -1,6 +1,6 @@
 //! Writing the record of one part.
 ghost use Rattle.std.specs.Prelude.{true, false, ◌≡◌, ◌≤◌, ◌<◌, ◌+◌, ◌↔◌, length, IfOk, IsOk, OnOk, IsErrOf};
-ghost use Rattle.cp_words.specs.Faults.{Rose};
+ghost use Rattle.cp_base.specs.Faults.{Rose};
 ghost use Rattle.cp_disk.specs.Images.{Only};
 ghost use Rattle.cp_journal.specs.Moments.{LeavesOnly};
 ghost use Rattle.cp_journal.specs.Journals.{disk_of, is_spent, end_of};
@@ -12,9 +12,9 @@ ghost use Rattle.cp_log.specs.Causes.{Counts};
 use crate::StoreError;
 use cp_base::NoMemory;
 use cp_disk::Disk;
+use cp_grammar::write;
 use cp_journal::{Journal, JournalError};
 use cp_parts::{Part, STATE_BYTES, state_bytes};
-use cp_spelling::write;
 use std::alloc::Global;
 
 /// The bytes of a part. Those of a `State` take no memory.

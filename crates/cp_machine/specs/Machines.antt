@@ -4,9 +4,9 @@ use Rattle.std.specs.List.{AllByRecursion}
 use Rattle.cp_base.specs.declared.identifier.Invocation.{Invocation}
 use Rattle.cp_answers.specs.declared.answer.Answer.{Answer}
 use Rattle.cp_answers.specs.Answers.{answer_grammar}
-use Rattle.cp_spelling.specs.Common.{index, invocation}
-use Rattle.cp_spelling.specs.declared.stop.ReadError.{ReadError}
-use Rattle.cp_spelling.specs.Readers.{Fails}
+use Rattle.cp_grammar.specs.Common.{index, invocation}
+use Rattle.cp_grammar.specs.declared.stop.ReadError.{ReadError}
+use Rattle.cp_grammar.specs.Readers.{Fails}
 use Rattle.cp_machine.specs.declared.timer.Timed.{Timed}
 use Rattle.cp_machine.specs.declared.timer.Timed.TheVariants as timed
 use Rattle.cp_machine.specs.declared.timer.Timer.{Timer}

@@ -2,20 +2,20 @@
 use Rattle.std.specs.Prelude.{ℕ, List, [], ◌∷◌, ◌++◌, Option, Some, None, codes}
 use Rattle.cp_base.specs.declared.identifier.GroupId.{GroupId}
 use Rattle.cp_grammar.specs.Grammar.{Grammar, always, variant, case, no_case, ◌then◌}
-use Rattle.cp_spelling.specs.Common.{index, group_id, members}
-use Rattle.cp_raft_message.specs.Texts.{numbers_text}
-use Rattle.cp_raft_message.specs.declared.vote.VoteRequest.{VoteRequest}
-use Rattle.cp_raft_message.specs.declared.vote.VoteReply.{VoteReply}
-use Rattle.cp_raft_message.specs.Votes.{vote_request, vote_reply, vote_request_text, vote_reply_text}
-use Rattle.cp_raft_message.specs.declared.append.Append.{Append}
-use Rattle.cp_raft_message.specs.declared.append.AppendReply.{AppendReply}
-use Rattle.cp_raft_message.specs.Appends.{append_within, append_reply, append_text, append_reply_text}
-use Rattle.cp_raft_message.specs.declared.snapshot.Chunk.{Chunk}
-use Rattle.cp_raft_message.specs.declared.snapshot.SnapshotReply.{SnapshotReply}
-use Rattle.cp_raft_message.specs.Snapshots.{chunk_grammar, snapshot_reply, chunk_text, snapshot_reply_text}
-use Rattle.cp_raft_message.specs.declared.confirm.Confirm.{Confirm}
-use Rattle.cp_raft_message.specs.declared.confirm.Confirmed.{Confirmed}
-use Rattle.cp_raft_message.specs.Confirms.{confirm_grammar, confirmed_grammar, confirm_text, confirmed_text}
+use Rattle.cp_grammar.specs.Common.{index, group_id, members}
+use Rattle.cp_message.specs.Texts.{numbers_text}
+use Rattle.cp_message.specs.declared.vote.VoteRequest.{VoteRequest}
+use Rattle.cp_message.specs.declared.vote.VoteReply.{VoteReply}
+use Rattle.cp_message.specs.Votes.{vote_request, vote_reply, vote_request_text, vote_reply_text}
+use Rattle.cp_message.specs.declared.append.Append.{Append}
+use Rattle.cp_message.specs.declared.append.AppendReply.{AppendReply}
+use Rattle.cp_message.specs.Appends.{append_within, append_reply, append_text, append_reply_text}
+use Rattle.cp_message.specs.declared.snapshot.Chunk.{Chunk}
+use Rattle.cp_message.specs.declared.snapshot.SnapshotReply.{SnapshotReply}
+use Rattle.cp_message.specs.Snapshots.{chunk_grammar, snapshot_reply, chunk_text, snapshot_reply_text}
+use Rattle.cp_message.specs.declared.confirm.Confirm.{Confirm}
+use Rattle.cp_message.specs.declared.confirm.Confirmed.{Confirmed}
+use Rattle.cp_message.specs.Confirms.{confirm_grammar, confirmed_grammar, confirm_text, confirmed_text}
 use Rattle.cp_message.specs.declared.request.Request.{Request}
 use Rattle.cp_message.specs.declared.request.Reply.{Reply}
 use Rattle.cp_message.specs.Requests.{request_within, reply_within, request_text, reply_text}

@@ -3,3 +3,10 @@ pub mod Tasks
 pub mod Bodies
 pub mod Messages
 pub mod Laws
+pub mod Texts
+pub mod Votes
+pub mod Entries
+pub mod Appends
+pub mod Snapshots
+pub mod Confirms
+pub mod RaftLaws

@@ -2,8 +2,8 @@
 use Rattle.std.specs.Prelude.{ℕ, List, [], ◌∷◌, ◌++◌}
 use Rattle.cp_grammar.specs.Grammar.{Grammar, mapped, ◌then◌}
 use Rattle.cp_grammar.specs.Fields.{bytes}
-use Rattle.cp_spelling.specs.Common.{index, group_id, thread_no, client_id}
-use Rattle.cp_raft_message.specs.Texts.{numbers_text}
+use Rattle.cp_grammar.specs.Common.{index, group_id, thread_no, client_id}
+use Rattle.cp_message.specs.Texts.{numbers_text}
 use Rattle.cp_message.specs.declared.request.Request.{Request}
 use Rattle.cp_message.specs.declared.request.Reply.{Reply}
 

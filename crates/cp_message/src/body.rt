@@ -1,17 +1,18 @@
 //! What a message says.
 ghost use Rattle.std.specs.Prelude.{◌≡◌, ◌++◌, OnOk};
-ghost use Rattle.cp_words.specs.Text.{Grew};
-ghost use Rattle.cp_spelling.specs.Readers.{Reads};
+ghost use Rattle.cp_base.specs.Text.{Grew};
+ghost use Rattle.cp_base.specs.declared.limits.TheConstants.{MOST_ENTRY};
+ghost use Rattle.cp_grammar.specs.Readers.{Reads};
 ghost use Rattle.cp_message.specs.Bodies.{kind_of, body_within, body_text};
 
 use crate::request::{Reply, Request};
 use crate::task::{Task, TaskReply, append_start_text, append_task_reply_text, append_task_text};
-use cp_base::{GroupId, Items, NoMemory, Text};
-use cp_raft_message::{
+use crate::{
     Append, AppendReply, Chunk, Confirm, Confirmed, SnapshotReply, VoteReply, VoteRequest,
     append_numbers_text,
 };
-use cp_spelling::{Spelled, Stop, append_index, append_members, take_index, take_members};
+use cp_base::{GroupId, Items, NoMemory, Text};
+use cp_grammar::{Spelled, Stop, append_index, append_members, take_index, take_members};
 use std::alloc::Global;
 
 /// What a message says: one variant for each kind.
@@ -173,8 +174,8 @@ impl Body {
     /// Appends the one spelling.
     #[tactic(auto, unfolding(crate::specs::Bodies::body_within))]
     pub fn append(&self, out: &mut Vec<u8>) -> Result<(), NoMemory>
-        requires { (body_within 8192 (kind_of self.now)).Fits self.now }
-        ensures { OnOk result (out.new.items ≡ out.old.items ++ (body_within 8192 (kind_of self.now)).spelling self.now) }
+        requires { (body_within MOST_ENTRY (kind_of self.now)).Fits self.now }
+        ensures { OnOk result (out.new.items ≡ out.old.items ++ (body_within MOST_ENTRY (kind_of self.now)).spelling self.now) }
     {
         match self {
             Body::Hello => {}

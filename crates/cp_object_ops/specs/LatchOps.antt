@@ -3,7 +3,7 @@ use Rattle.std.specs.Prelude.{ℕ, List, Option, Some, None, codes, ◌++◌}
 use Rattle.std.specs.Fmt.{decimal}
 use Rattle.cp_grammar.specs.Grammar.{Grammar, always, keyed, variant, case, no_case}
 use Rattle.cp_grammar.specs.Fields.{byte, marked}
-use Rattle.cp_spelling.specs.Common.{index}
+use Rattle.cp_grammar.specs.Common.{index}
 use Rattle.cp_op_values.specs.Numbers.{any_u32, latch_count}
 use Rattle.cp_object_ops.specs.declared.latch_op.LatchOp.{LatchOp}
 use Rattle.cp_object_ops.specs.declared.latch_op.LatchOp.TheVariants as variants

@@ -3,7 +3,7 @@ use Rattle.std.specs.Prelude.{ℕ, List, Option, Some, None, codes, ◌++◌, �
 use Rattle.std.specs.Fmt.{decimal}
 use Rattle.cp_grammar.specs.Grammar.{Grammar, always, keyed, variant, case, no_case, ◌then◌}
 use Rattle.cp_grammar.specs.Fields.{byte}
-use Rattle.cp_spelling.specs.Common.{index}
+use Rattle.cp_grammar.specs.Common.{index}
 use Rattle.cp_op_values.specs.Numbers.{any_u32}
 use Rattle.cp_op_values.specs.declared.wish.Wish.{Wish}
 use Rattle.cp_op_values.specs.Wishes.{wish_grammar, wish_text}

@@ -3,10 +3,10 @@ ghost use Rattle.cp_object_ops.specs.Laws.{lock_op_lawful};
 ghost use Rattle.cp_object_ops.specs.LockOps.{lock_op};
 
 use cp_base::{NoMemory, Text, write_decimal};
-use cp_op_values::{Wish, append_numbered, append_wish};
-use cp_spelling::{
+use cp_grammar::{
     Spelled, Stop, append_index, append_u8, append_u32, take_index, take_u8, take_u32,
 };
+use cp_op_values::{Wish, append_numbered, append_wish};
 use std::alloc::Global;
 
 /// What may be done to a lock. Whoever acquires or releases names a session.

@@ -3,7 +3,7 @@ ghost use Rattle.cp_object_ops.specs.Laws.{long_op_lawful};
 ghost use Rattle.cp_object_ops.specs.LongOps.{long_op};
 
 use cp_base::{NoMemory, Text, write_signed};
-use cp_spelling::{Spelled, Stop, append_i64, append_u8, take_i64, take_u8};
+use cp_grammar::{Spelled, Stop, append_i64, append_u8, take_i64, take_u8};
 use std::alloc::Global;
 
 /// What may be done to an atomic long. Sums wrap in 64 bits.

@@ -3,11 +3,11 @@ ghost use Rattle.cp_object_ops.specs.Laws.{map_op_lawful};
 ghost use Rattle.cp_object_ops.specs.MapOps.{map_op};
 
 use cp_base::{Items, NoMemory, Text};
+use cp_grammar::{Spelled, Stop, append_u8, take_u8};
 use cp_op_values::{
     append_hex_text, append_key, append_key_and_value, append_key_and_values, append_value,
     take_key, take_value,
 };
-use cp_spelling::{Spelled, Stop, append_u8, take_u8};
 use std::alloc::Global;
 
 /// What may be done to a map.

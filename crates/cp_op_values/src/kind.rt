@@ -4,7 +4,7 @@ ghost use Rattle.cp_op_values.specs.Values.{is_kind, kind_grammar};
 ghost use Rattle.cp_op_values.specs.Laws.{kind_lawful};
 
 use cp_base::{NoMemory, Text};
-use cp_spelling::{Spelled, Stop, append_u8, take_u8};
+use cp_grammar::{Spelled, Stop, append_u8, take_u8};
 use std::alloc::Global;
 
 /// The kind of an object.

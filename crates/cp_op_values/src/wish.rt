@@ -4,7 +4,7 @@ ghost use Rattle.cp_op_values.specs.Wishes.{wish_grammar};
 ghost use Rattle.std.specs.Prelude.{◌≡◌, ◌++◌, OnOk};
 
 use cp_base::{NoMemory, Text, write_decimal};
-use cp_spelling::{Spelled, Stop, append_u8, append_u32, take_u8, take_u32};
+use cp_grammar::{Spelled, Stop, append_u8, append_u32, take_u8, take_u32};
 use std::alloc::Global;
 
 /// How long a call may wait.

@@ -4,7 +4,7 @@ use Rattle.std.specs.Fmt.{decimal}
 use Rattle.cp_base.specs.declared.identifier.MemberNo.{MemberNo}
 use Rattle.cp_grammar.specs.Grammar.{Grammar, keyed, variant, case, no_case, ◌then◌}
 use Rattle.cp_grammar.specs.Fields.{byte}
-use Rattle.cp_spelling.specs.Common.{index, member_no}
+use Rattle.cp_grammar.specs.Common.{index, member_no}
 use Rattle.cp_ops.specs.declared.change_op.ChangeOp.{ChangeOp}
 use Rattle.cp_ops.specs.declared.change_op.ChangeOp.TheVariants as variants
 

@@ -4,10 +4,11 @@ use Rattle.std.specs.Fmt.{decimal}
 use Rattle.cp_base.specs.declared.identifier.MemberNo.{MemberNo}
 use Rattle.cp_base.specs.declared.identifier.GroupId.{GroupId}
 use Rattle.cp_base.specs.declared.identifier.Invocation.{Invocation}
+use Rattle.cp_base.specs.declared.limits.TheConstants.{MOST_REFERENCE}
 use Rattle.cp_grammar.specs.Grammar.{Grammar, always, keyed, variant, case, no_case, ◌then◌}
 use Rattle.cp_grammar.specs.Lists.{listed, each}
 use Rattle.cp_grammar.specs.Fields.{byte}
-use Rattle.cp_spelling.specs.Common.{index, group_id, member_no, invocation, members}
+use Rattle.cp_grammar.specs.Common.{index, group_id, member_no, invocation, members}
 use Rattle.cp_op_values.specs.Numbers.{any_u64}
 use Rattle.cp_op_values.specs.Values.{members_text}
 use Rattle.cp_ops.specs.EntryValues.{session_list, hundred, optional_invocation, invocation_text, for_text, pairs_text, waits_text}
@@ -74,7 +75,7 @@ entry_within most = keyed entry_tag (byte 8)
 
 -- the newest form
 abbrev pub entry_grammar : Grammar ℕ Entry
-entry_grammar = entry_within 4000
+entry_grammar = entry_within MOST_REFERENCE
 
 abbrev pub entry_text : Entry → List ℕ
 entry_text variants.Empty = codes "empty"

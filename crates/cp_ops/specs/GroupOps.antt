@@ -3,7 +3,7 @@ use Rattle.std.specs.Prelude.{ℕ, List, Option, Some, None, codes, ◌++◌, �
 use Rattle.std.specs.Fmt.{decimal}
 use Rattle.cp_grammar.specs.Grammar.{Grammar, keyed, variant, case, no_case, ◌then◌}
 use Rattle.cp_grammar.specs.Fields.{byte}
-use Rattle.cp_spelling.specs.Common.{name}
+use Rattle.cp_grammar.specs.Common.{name}
 use Rattle.cp_op_values.specs.Numbers.{group_size}
 use Rattle.cp_ops.specs.declared.group_op.GroupOp.{GroupOp}
 use Rattle.cp_ops.specs.declared.group_op.GroupOp.TheVariants as variants

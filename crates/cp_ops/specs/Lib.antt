@@ -6,3 +6,4 @@ pub mod Ops
 pub mod EntryValues
 pub mod Entries
 pub mod Laws
+pub mod Sizes

@@ -4,7 +4,7 @@ use Rattle.std.specs.Fmt.{decimal}
 use Rattle.cp_base.specs.declared.identifier.MemberNo.{MemberNo}
 use Rattle.cp_grammar.specs.Grammar.{Grammar, keyed, variant, case, no_case}
 use Rattle.cp_grammar.specs.Fields.{byte}
-use Rattle.cp_spelling.specs.Common.{member_no}
+use Rattle.cp_grammar.specs.Common.{member_no}
 use Rattle.cp_ops.specs.declared.member_op.MemberOp.{MemberOp}
 use Rattle.cp_ops.specs.declared.member_op.MemberOp.TheVariants as variants
 

@@ -3,7 +3,7 @@ use Rattle.std.specs.Prelude.{ℕ, List, Option, Some, None, codes, ◌++◌}
 use Rattle.std.specs.Fmt.{decimal}
 use Rattle.cp_grammar.specs.Grammar.{Grammar, always, keyed, variant, case, no_case}
 use Rattle.cp_grammar.specs.Fields.{byte}
-use Rattle.cp_spelling.specs.Common.{index}
+use Rattle.cp_grammar.specs.Common.{index}
 use Rattle.cp_ops.specs.declared.session_op.SessionOp.{SessionOp}
 use Rattle.cp_ops.specs.declared.session_op.SessionOp.TheVariants as variants
 

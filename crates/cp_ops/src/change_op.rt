@@ -3,7 +3,7 @@ ghost use Rattle.cp_ops.specs.ChangeOps.{change_op};
 ghost use Rattle.cp_ops.specs.Laws.{change_op_lawful};
 
 use cp_base::{MemberNo, NoMemory, Text, write_decimal};
-use cp_spelling::{Spelled, Stop, append_index, append_u8, take_index, take_u8};
+use cp_grammar::{Spelled, Stop, append_index, append_u8, take_index, take_u8};
 use std::alloc::Global;
 
 /// A change of the members of a group, whose configuration is expected to have this index. It stands in requests only.

@@ -3,8 +3,8 @@ ghost use Rattle.cp_ops.specs.GroupOps.{group_op};
 ghost use Rattle.cp_ops.specs.Laws.{group_op_lawful};
 
 use cp_base::{Name, NoMemory, Text, write_decimal};
+use cp_grammar::{Spelled, Stop, append_u8, take_u8};
 use cp_op_values::{append_size, take_size};
-use cp_spelling::{Spelled, Stop, append_u8, take_u8};
 use std::alloc::Global;
 
 /// What may be asked about groups.

@@ -3,8 +3,8 @@ ghost use Rattle.cp_ops.specs.Laws.{member_op_lawful};
 ghost use Rattle.cp_ops.specs.MemberOps.{member_op};
 
 use cp_base::{MemberNo, NoMemory, Text};
+use cp_grammar::{Spelled, Stop, append_u8, take_u8};
 use cp_op_values::append_numbered;
-use cp_spelling::{Spelled, Stop, append_u8, take_u8};
 use std::alloc::Global;
 
 /// What may be asked about members.

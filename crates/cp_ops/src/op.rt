@@ -2,17 +2,18 @@
 ghost use Rattle.cp_grammar.specs.Grammar.{whole};
 ghost use Rattle.cp_ops.specs.Laws.{op_newest_lawful};
 ghost use Rattle.cp_ops.specs.Ops.{op_within, op_grammar};
-ghost use Rattle.cp_spelling.specs.Readers.{Reads, Tells};
+ghost use Rattle.cp_grammar.specs.Readers.{Reads, Tells};
 ghost use Rattle.std.specs.Prelude.{◌≡◌, ◌++◌, List, ℕ, Ok, OnOk, OnErr, IfOk};
 
 use crate::change_op::ChangeOp;
 use crate::group_op::GroupOp;
 use crate::member_op::MemberOp;
 use crate::session_op::SessionOp;
+use cp_base::limits::{LAST_NUMBER, MOST_REFERENCE};
 use cp_base::{Name, NoMemory, Text};
+use cp_grammar::{ReadError, Spelled, Stop, append_u8};
 use cp_object_ops::{LatchOp, LockOp, LongOp, MapOp, RefOp, SemOp};
-use cp_op_values::{Kind, MOST_REFERENCE, take_tag};
-use cp_spelling::{MOST_INDEX, ReadError, Spelled, Stop, append_u8};
+use cp_op_values::{Kind, take_tag};
 use std::alloc::Global;
 
 /// An operation, as it stands in an entry or a request.
@@ -73,7 +74,7 @@ impl Op {
             }
             4 => {
                 let (name, rest) = Name::take(alloc, rest)?;
-                let (op, rest) = SemOp::take_within(alloc, MOST_INDEX, rest)?;
+                let (op, rest) = SemOp::take_within(alloc, LAST_NUMBER, rest)?;
                 Ok((Op::Sem(name, op), rest))
             }
             5 => {
@@ -276,7 +277,7 @@ impl Op {
         // What is spelled so is read, unless memory runs out.
         ensures only { (value : Op) → op_grammar.Fits value → bytes.now ≡ op_grammar.spelling value → Tells result (Ok value) }
     {
-        cp_spelling::read(alloc, bytes)
+        cp_grammar::read(alloc, bytes)
     }
 
     /// Appends the one spelling, or leaves `out`.
@@ -285,13 +286,14 @@ impl Op {
         ensures ok { OnOk result (out.new.items ≡ out.old.items ++ op_grammar.spelling self.now) }
         ensures err { OnErr result (out.new.items ≡ out.old.items) }
     {
-        cp_spelling::write(self, out)
+        cp_grammar::write(self, out)
     }
 }
 
 /// No spelling of an op begins another, so what was written is read again and the rest is left.
 pub fn no_op_begins_another()
-    ensures { (x y : Op) (a b : List ℕ) → op_grammar.Fits x → op_grammar.Fits y → op_grammar.spelling x ++ a ≡ op_grammar.spelling y ++ b → (x ≡ y) × (a ≡ b) }
+    ensures { (x y : Op) (a b : List ℕ) → op_grammar.Fits x → op_grammar.Fits y → op_grammar.spelling x ++ a
+        ≡ op_grammar.spelling y ++ b → (x ≡ y) × (a ≡ b) }
 {
-    cp_spelling::no_spelling_begins_another::<Op>()
+    cp_grammar::no_spelling_begins_another::<Op>()
 }

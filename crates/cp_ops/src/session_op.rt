@@ -3,8 +3,8 @@ ghost use Rattle.cp_ops.specs.Laws.{session_op_lawful};
 ghost use Rattle.cp_ops.specs.SessionOps.{session_op};
 
 use cp_base::{NoMemory, Text};
+use cp_grammar::{Spelled, Stop, append_index, append_u8, take_index, take_u8};
 use cp_op_values::append_numbered;
-use cp_spelling::{Spelled, Stop, append_index, append_u8, take_index, take_u8};
 use std::alloc::Global;
 
 /// What a client may ask about its session in a group.

@@ -4,7 +4,7 @@ use Rattle.std.specs.Int.{w64}
 use Rattle.cp_base.specs.declared.identifier.Invocation.{Invocation}
 use Rattle.cp_grammar.specs.Grammar.{Grammar, ◌then◌, mapped, whole}
 use Rattle.cp_grammar.specs.Fields.{marked, number, optional}
-use Rattle.cp_spelling.specs.Common.{index, invocation, members}
+use Rattle.cp_grammar.specs.Common.{index, invocation, members}
 use Rattle.cp_parts.specs.declared.config.Config.{Config}
 
 -- the number of a plan

@@ -1,7 +1,7 @@
 -- What the bytes of a snapshot begin with.
 use Rattle.std.specs.Prelude.{ℕ, List, Option, Some, None, Ok, Err}
 use Rattle.cp_grammar.specs.Grammar.{Grammar, Read, ◌then◌, mapped}
-use Rattle.cp_spelling.specs.Common.{index}
+use Rattle.cp_grammar.specs.Common.{index}
 use Rattle.cp_parts.specs.declared.snapshot_head.SnapshotHead.{SnapshotHead}
 use Rattle.cp_parts.specs.Configs.{config_grammar}
 

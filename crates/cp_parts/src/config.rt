@@ -1,13 +1,13 @@
 //! The configuration of a group.
 ghost use Rattle.std.specs.Prelude.{◌≡◌, IfOk};
 ghost use Rattle.cp_grammar.specs.Fields.{optional};
-ghost use Rattle.cp_spelling.specs.Common.{invocation};
-ghost use Rattle.cp_spelling.specs.Readers.{Reads};
+ghost use Rattle.cp_grammar.specs.Common.{invocation};
+ghost use Rattle.cp_grammar.specs.Readers.{Reads};
 ghost use Rattle.cp_parts.specs.Configs.{config_grammar, members_entry, config_in};
 ghost use Rattle.cp_parts.specs.Laws.{config_lawful};
 
 use cp_base::{Invocation, Items, NoMemory};
-use cp_spelling::{
+use cp_grammar::{
     Spelled, Stop, append_index, append_members, append_u64, take_index, take_mark, take_members,
     take_u8, take_u64,
 };

@@ -5,7 +5,7 @@ ghost use Rattle.cp_parts.specs.Laws.{head_lawful};
 
 use crate::Config;
 use cp_base::NoMemory;
-use cp_spelling::{Spelled, Stop, append_index, take_index};
+use cp_grammar::{Spelled, Stop, append_index, take_index};
 use std::alloc::Global;
 
 /// What the bytes of a snapshot begin with; behind it stand those of the state machine.

@@ -7,33 +7,33 @@ use Rattle.std.specs.Option.{option_map}
 use Rattle.cp_parts.specs.Heads.{head_of}
 use Rattle.cp_message.specs.declared.message.Message.{Message}
 use Rattle.cp_parts.specs.declared.part.Part as journal
-use Rattle.cp_rules.specs.Entries.{members_in}
+use Rattle.cp_agreement_facts.specs.Entries.{members_in}
 use Rattle.cp_answers.specs.declared.refusal.Refusal.{Refusal}
 use Rattle.cp_answers.specs.declared.refusal.Refusal.TheVariants.{NotLeader, IndexEnd, Overloaded}
-use Rattle.cp_store_state.specs.Persistent.{PersistentState, last}
-use Rattle.cp_step.specs.declared.peer.Peer.{Peer}
-use Rattle.cp_step.specs.declared.role.Role.TheVariants.{Leader}
-use Rattle.cp_step.specs.declared.outcome.Outcome.TheVariants.{Done}
-use Rattle.cp_step.specs.Limits.{most_index, most_snapshot, most_uncommitted}
-use Rattle.cp_step.specs.Parts.{part_of}
-use Rattle.cp_step.specs.Persistent.{Part, SnapshotPart, ballot, members, with_part, after_part}
-use Rattle.cp_step.specs.Volatile.{VolatileState, new_peer, peer, silence}
-use Rattle.cp_step.specs.Local.{LocalStep, Sent, does, is_leader}
-use Rattle.cp_step.specs.Leadership.{created_part, takes_leadership}
-use Rattle.cp_step.specs.PreVotes.{may_stand, stands, times_out}
-use Rattle.cp_step.specs.Requests.{refuses, proposes}
-use Rattle.cp_step.specs.Snapshots.{from_start, own_head, own_snapshot}
-use Rattle.cp_step.specs.Spelling.{snapshot_bytes}
-use Rattle.cp_step.specs.Ticks.{is_proposed, confirms_again, beats, expires}
-use Rattle.cp_step_facts.specs.Soundness.{IsPlaced, IsSound, IsSnapshotDue}
-use Rattle.cp_step_facts.proofs.Basics.{either, mapped_place}
-use Rattle.cp_step_facts.proofs.Ticks.{wrote}
+use Rattle.cp_log_rules.specs.Persistent.{PersistentState, last}
+use Rattle.cp_rules.specs.declared.peer.Peer.{Peer}
+use Rattle.cp_rules.specs.declared.role.Role.TheVariants.{Leader}
+use Rattle.cp_rules.specs.declared.outcome.Outcome.TheVariants.{Done}
+use Rattle.cp_rules.specs.Limits.{most_index, most_snapshot, most_uncommitted}
+use Rattle.cp_rules.specs.Parts.{part_of}
+use Rattle.cp_rules.specs.Persistent.{Part, SnapshotPart, ballot, members, with_part, after_part}
+use Rattle.cp_rules.specs.Volatile.{VolatileState, new_peer, peer, silence}
+use Rattle.cp_rules.specs.Local.{LocalStep, Sent, does, is_leader}
+use Rattle.cp_rules.specs.Leadership.{created_part, takes_leadership}
+use Rattle.cp_rules.specs.PreVotes.{may_stand, stands, times_out}
+use Rattle.cp_rules.specs.Requests.{refuses, proposes}
+use Rattle.cp_rules.specs.Snapshots.{from_start, own_head, own_snapshot}
+use Rattle.cp_rules.specs.Spelling.{snapshot_bytes}
+use Rattle.cp_rules.specs.Ticks.{is_proposed, confirms_again, beats, expires}
+use Rattle.cp_rules_facts.specs.Soundness.{IsPlaced, IsSound, IsSnapshotDue}
+use Rattle.cp_rules_facts.proofs.Basics.{either, mapped_place}
+use Rattle.cp_rules_facts.proofs.Ticks.{wrote}
 use Rattle.cp_replicate.specs.Decisions.{may_expire}
 use Rattle.cp_raft_state.specs.declared.did.Did.{Did}
 use Rattle.cp_raft_state.specs.declared.seat.Seat.{Seat}
 use Rattle.cp_raft_state.specs.Doing.{Does}
 use Rattle.cp_raft_state.specs.Messages.{messages_of, sent_by}
-use Rattle.cp_raft_log.proofs.OwnSnapshots.{IsOwn, last_kept}
+use Rattle.cp_raft_state.proofs.OwnSnapshots.{IsOwn, last_kept}
 use Rattle.cp_raft.specs.Ticking.{if_fits, own_bytes, own_part, from_new, beaten, beat_sends}
 use Rattle.cp_raft.proofs.Ticks.{no_beat, idles_is, confirms_stay, waited}
 

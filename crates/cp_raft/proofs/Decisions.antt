@@ -4,14 +4,14 @@ use Rattle.std.specs.Prelude.{IfSome, IsSome}
 use Rattle.std.specs.Option.{ForSome}
 use Rattle.std.proofs.lemmas.Bool.{cases_Bool}
 use Rattle.cp_message.specs.declared.message.Message.{Message}
-use Rattle.cp_store_state.specs.Persistent.{PersistentState, last}
-use Rattle.cp_step.specs.Limits.{most_index}
-use Rattle.cp_step.specs.Persistent.{members, after_part}
-use Rattle.cp_step.specs.Volatile.{VolatileState, no_reads}
-use Rattle.cp_step.specs.Local.{Event, LocalStep, is_leader}
-use Rattle.cp_step.specs.Steps.{rule, step}
-use Rattle.cp_step_ranges.specs.Laws.{MayStep}
-use Rattle.cp_step.specs.Confirming.{is_ready, settles}
+use Rattle.cp_log_rules.specs.Persistent.{PersistentState, last}
+use Rattle.cp_rules.specs.Limits.{most_index}
+use Rattle.cp_rules.specs.Persistent.{members, after_part}
+use Rattle.cp_rules.specs.Volatile.{VolatileState, no_reads}
+use Rattle.cp_rules.specs.Local.{Event, LocalStep, is_leader}
+use Rattle.cp_rules.specs.Steps.{rule, step}
+use Rattle.cp_rules_ranges.specs.Laws.{MayStep}
+use Rattle.cp_rules.specs.Confirming.{is_ready, settles}
 use Rattle.cp_raft_state.specs.declared.did.Did.{Did}
 use Rattle.cp_raft_state.specs.declared.seat.Seat.{Seat}
 use Rattle.cp_raft_state.specs.Doing.{Does}
@@ -31,7 +31,7 @@ module _ (seat : Seat) (p : PersistentState) (v : VolatileState) (s : LocalStep)
   leads l =
       let at : is_leader between.role ≡ true = ap (λ (z : VolatileState). is_leader z.role) does.state ∙ l in
       let who : members_after p did.part ≡ members (after_part s.part p) = ap (members_after p) does.part ∙ sym (leaves.told l) in
-      let answered : last.answered.items ≡ filter (is_ready seat.me (members_after p did.part) between.reads between.commit) between.reads.looks = rw at at settled.answered in
+      let answered : last.looks.items ≡ filter (is_ready seat.me (members_after p did.part) between.reads between.commit) between.reads.looks = rw at at settled.answered in
       let lost : last.lost.items ≡ [] = rw at at settled.lost in
       let state : after ≡ without_ready seat.me (members_after p did.part) between = rw at at settled.state in
       let same_answered : filter (is_ready seat.me (members_after p did.part) between.reads between.commit) between.reads.looks ≡ filter (is_ready seat.me (members (after_part s.part p)) s.state.reads s.state.commit) s.state.reads.looks =
@@ -51,7 +51,7 @@ module _ (seat : Seat) (p : PersistentState) (v : VolatileState) (s : LocalStep)
   follows : is_leader s.state.role ≡ false → Decides seat (settles seat.me p v s) did after first last
   follows l =
       let at : is_leader between.role ≡ false = ap (λ (z : VolatileState). is_leader z.role) does.state ∙ l in
-      let answered : last.answered.items ≡ [] = rw at at settled.answered in
+      let answered : last.looks.items ≡ [] = rw at at settled.answered in
       let lost : last.lost.items ≡ between.reads.looks = rw at at settled.lost in
       let state : after ≡ record between { reads = no_reads } = rw at at settled.state in
       rw l (record {

@@ -1,13 +1,13 @@
 -- Replies to pre-votes and votes that are counted.
 use Rattle.std.proofs.Common.{◌≡◌, ◌&&◌, ◌||◌, ◌==◌, not, ℕ, Bool, true, false, List, refl, sym, ap, ◌∙◌}
-use Rattle.cp_store_state.specs.Persistent.{PersistentState}
-use Rattle.cp_step.specs.declared.role.Role.{Role}
-use Rattle.cp_step.specs.declared.role.Role.TheVariants.{Follower, PreCandidate, Candidate, Leader}
-use Rattle.cp_step.specs.Local.{LocalStep, is_leader}
-use Rattle.cp_step.specs.Persistent.{members, is_quorum}
-use Rattle.cp_step.specs.PreVotes.{has_quorum, with_vote, counts_prevote}
-use Rattle.cp_step.specs.Volatile.{VolatileState, has_voted}
-use Rattle.cp_step.specs.Votes.{counts_vote}
+use Rattle.cp_log_rules.specs.Persistent.{PersistentState}
+use Rattle.cp_rules.specs.declared.role.Role.{Role}
+use Rattle.cp_rules.specs.declared.role.Role.TheVariants.{Follower, PreCandidate, Candidate, Leader}
+use Rattle.cp_rules.specs.Local.{LocalStep, is_leader}
+use Rattle.cp_rules.specs.Persistent.{members, is_quorum}
+use Rattle.cp_rules.specs.PreVotes.{has_quorum, with_vote, counts_prevote}
+use Rattle.cp_rules.specs.Volatile.{VolatileState, has_voted}
+use Rattle.cp_rules.specs.Votes.{counts_vote}
 use Rattle.cp_election.specs.declared.replying.VoteReplied.{VoteReplied}
 use Rattle.cp_election.specs.declared.replying.VoteReplied.TheVariants.{Counted}
 use Rattle.cp_election.specs.Laws.{after_prevote_reply, after_vote_reply}

@@ -5,13 +5,13 @@ use Rattle.std.specs.Int.{Width, w64, byte_len, from_be_bytes}
 use Rattle.std.proofs.lemmas.Option.{same_Some}
 use Rattle.cp_grammar.specs.Grammar.{Read, ◌>>=◌, Grammar, ◌then◌}
 use Rattle.cp_grammar.specs.Fields.{number_reading}
-use Rattle.cp_grammar.proofs.Laws.{bind_ok, ok_is, guard_ok, guard_rest}
-use Rattle.cp_spelling.specs.Common.{index, members}
+use Rattle.cp_grammar.specs.Laws.{bind_ok, ok_is, guard_ok, guard_rest}
+use Rattle.cp_grammar.specs.Common.{index, members}
 use Rattle.cp_parts.specs.declared.config.Config.{Config}
 use Rattle.cp_parts.specs.declared.snapshot_head.SnapshotHead.{SnapshotHead}
 use Rattle.cp_parts.specs.Configs.{plan_number, config_grammar}
 use Rattle.cp_parts.specs.Heads.{head_grammar, head_of, front_of}
-use Rattle.cp_step_ranges.proofs.Members.{members_fit}
+use Rattle.cp_rules_ranges.proofs.Members.{members_fit}
 
 number_fits : (w : Width) (most : ℕ) (ts : List ℕ) (n : ℕ) (left : List ℕ) → number_reading w most ts ≡ Ok (n, left) → n ≤ most
 unfolding number_reading

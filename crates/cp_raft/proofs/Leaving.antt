@@ -1,7 +1,7 @@
 -- What a rule leaves for the reads to be settled.
 use Rattle.std.proofs.Common.{◌||◌, ◌&&◌, ◌==◌, ◌≡◌, ℕ, suc, ◌+◌, ◌-◌, not, Bool, true, false, List, [], ◌∷◌, ◌++◌, length, drop, refl, sym, ap, subst, ◌∙◌, Option, Some, None, is_none, nat_lt, nat_le, if◌then◌else◌, true≢false}
 use Rattle.std.specs.Option.{option_map}
-use Rattle.std.proofs.lemmas.Bool.{and_parts}
+use Rattle.std.proofs.lemmas.Bool.{and_parts, not-false}
 use Rattle.cp_base.specs.declared.identifier.GroupId.{GroupId}
 use Rattle.cp_base.specs.declared.identifier.Invocation.{Invocation}
 use Rattle.cp_answers.specs.declared.refusal.Refusal.{Refusal}
@@ -9,37 +9,37 @@ use Rattle.cp_answers.specs.declared.refusal.Refusal.TheVariants.{NotLeader, Ove
 use Rattle.cp_parts.specs.declared.config.Config.{Config}
 use Rattle.cp_parts.specs.declared.log_entry.LogEntry.{LogEntry}
 use Rattle.cp_parts.specs.Heads.{head_of}
-use Rattle.cp_store_state.specs.Persistent.{PersistentState, last, term_at}
-use Rattle.cp_store_state.specs.Configurations.{config_at}
-use Rattle.cp_step.specs.declared.ballot.Ballot.{Ballot}
-use Rattle.cp_step.specs.declared.change.Change.{Change}
-use Rattle.cp_step.specs.declared.log_end.LogEnd.{LogEnd}
-use Rattle.cp_step.specs.declared.outcome.Outcome.TheVariants.{Refused}
-use Rattle.cp_step.specs.Limits.{beat_period, most_looks, most_snapshot}
-use Rattle.cp_step.specs.Parts.{part_of}
-use Rattle.cp_step.specs.Persistent.{Part, StatePart, AppendPart, ballot, ballot_part, log_end, members, is_member, has_term, after_part}
-use Rattle.cp_step.specs.Spelling.{empty_entry, members_entry, snapshot_bytes}
-use Rattle.cp_step.specs.Volatile.{Reads, VolatileState, new_peer, peer, silence, with_peer}
-use Rattle.cp_step.specs.Local.{leads_and, Body, PreVote, PreVoteReply, Vote, VoteReply, Append, AppendReply, Snapshot, SnapshotReply, Confirm, Confirmed, Event, Tick, Got, Propose, ChangeMembers, Read, Sent, LocalStep, does, reply, is_leader, is_candidate, is_pre_candidate}
-use Rattle.cp_step.specs.Terms.{adopted, steps_down, steps_down_for, adopts}
-use Rattle.cp_step.specs.Commit.{commit_found, commits}
-use Rattle.cp_step.specs.Sending.{append_to, chunk_from, appends}
-use Rattle.cp_step.specs.Leadership.{created_part, creates, leading, takes_leadership}
-use Rattle.cp_step.specs.PreVotes.{may_stand, stands, times_out, on_prevote, with_vote, has_quorum, becomes_candidate, counts_prevote, on_prevote_reply, is_up_to_date}
-use Rattle.cp_step.specs.Votes.{grants_vote, on_vote, counts_vote, on_vote_reply}
-use Rattle.cp_step.specs.Appends.{Difference, difference, follower_commit, following, refused_index, takes, goes_on, on_append}
-use Rattle.cp_step.specs.AppendReplies.{is_answered, matched_to, matches, falls_back, on_append_reply}
-use Rattle.cp_step.specs.Snapshots.{Progress, Apart, TooLong, More, Whole, progress, received_of, answers, installs, receives, takes_chunk, on_snapshot, sends_more, on_snapshot_reply, own_head, own_snapshot}
-use Rattle.cp_step.specs.Requests.{refuses_entry, unless_refused, proposes}
-use Rattle.cp_step.specs.Changes.{refuses_change, with_added, changed, changes, on_change}
-use Rattle.cp_step.specs.Confirming.{with_round, waits, begins_round, on_confirm, on_confirmed, on_read}
-use Rattle.cp_step.specs.Ticks.{expires, is_proposed, confirms_again, beats, on_tick}
-use Rattle.cp_step.specs.Steps.{on_message, rule}
-use Rattle.cp_step_facts.specs.Soundness.{IsSound, IsFair, IsSnapshotDue}
-use Rattle.cp_step_facts.proofs.Basics.{either, from_not, candidate_is}
-use Rattle.cp_step_facts.proofs.Ticks.{wrote}
-use Rattle.cp_raft_log.proofs.OneMore.{more, config_more}
-use Rattle.cp_raft_log.proofs.OwnSnapshots.{IsOwn, config_kept}
+use Rattle.cp_log_rules.specs.Persistent.{PersistentState, last, term_at}
+use Rattle.cp_log_rules.specs.Configurations.{config_at}
+use Rattle.cp_rules.specs.declared.ballot.Ballot.{Ballot}
+use Rattle.cp_rules.specs.declared.change.Change.{Change}
+use Rattle.cp_rules.specs.declared.log_end.LogEnd.{LogEnd}
+use Rattle.cp_rules.specs.declared.outcome.Outcome.TheVariants.{Refused}
+use Rattle.cp_rules.specs.Limits.{beat_period, most_looks, most_snapshot}
+use Rattle.cp_rules.specs.Parts.{part_of}
+use Rattle.cp_rules.specs.Persistent.{Part, StatePart, AppendPart, ballot, ballot_part, log_end, members, is_member, has_term, after_part}
+use Rattle.cp_rules.specs.Spelling.{empty_entry, members_entry, snapshot_bytes}
+use Rattle.cp_rules.specs.Volatile.{Reads, VolatileState, new_peer, peer, silence, with_peer}
+use Rattle.cp_rules.specs.Local.{leads_and, Body, PreVote, PreVoteReply, Vote, VoteReply, Append, AppendReply, Snapshot, SnapshotReply, Confirm, Confirmed, Event, Tick, Got, Propose, ChangeMembers, Read, Sent, LocalStep, does, reply, is_leader, is_candidate, is_pre_candidate}
+use Rattle.cp_rules.specs.Terms.{adopted, steps_down, steps_down_for, adopts}
+use Rattle.cp_rules.specs.Commit.{commit_found, commits}
+use Rattle.cp_rules.specs.Sending.{append_to, chunk_from, appends}
+use Rattle.cp_rules.specs.Leadership.{created_part, creates, leading, takes_leadership}
+use Rattle.cp_rules.specs.PreVotes.{may_stand, stands, times_out, on_prevote, with_vote, has_quorum, becomes_candidate, counts_prevote, on_prevote_reply, is_up_to_date}
+use Rattle.cp_rules.specs.Votes.{grants_vote, on_vote, counts_vote, on_vote_reply}
+use Rattle.cp_rules.specs.Appends.{Difference, difference, follower_commit, following, refused_index, takes, goes_on, on_append}
+use Rattle.cp_rules.specs.AppendReplies.{is_answered, matched_to, matches, falls_back, on_append_reply}
+use Rattle.cp_rules.specs.Snapshots.{Progress, Apart, TooLong, More, Whole, progress, received_of, answers, installs, receives, takes_chunk, on_snapshot, sends_more, on_snapshot_reply, own_head, own_snapshot}
+use Rattle.cp_rules.specs.Requests.{refuses_entry, unless_refused, proposes}
+use Rattle.cp_rules.specs.Changes.{refuses_change, with_added, changed, changes, on_change}
+use Rattle.cp_rules.specs.Confirming.{with_round, waits, begins_round, on_confirm, on_confirmed, on_read}
+use Rattle.cp_rules.specs.Ticks.{expires, is_proposed, confirms_again, beats, on_tick}
+use Rattle.cp_rules.specs.Steps.{on_message, rule}
+use Rattle.cp_rules_facts.specs.Soundness.{IsSound, IsFair, IsSnapshotDue}
+use Rattle.cp_rules_facts.proofs.Basics.{either, candidate_is}
+use Rattle.cp_rules_facts.proofs.Ticks.{wrote}
+use Rattle.cp_raft_state.proofs.OneMore.{more, config_more}
+use Rattle.cp_raft_state.proofs.OwnSnapshots.{IsOwn, config_kept}
 use Rattle.cp_raft.specs.Settling.{members_after}
 use Rattle.cp_raft.specs.Ticking.{if_fits, own_bytes, own_part, from_new}
 use Rattle.cp_raft.proofs.Ticks.{own_snapshot_is}
@@ -259,7 +259,7 @@ module _ (group : GroupId) (me : ℕ) (p : PersistentState) (v : VolatileState) 
       (λ h. refused_left (NotLeader v.leader))
       (λ h. either Left (nat_le most_looks (length v.reads.looks)) full s
       (λ k. refused_left (Overloaded most_looks))
-      (λ k. record { told = λ l. refl; looks = λ l. absurd (true≢false (sym (from_not (is_leader v.role) h) ∙ l)) }))
+      (λ k. record { told = λ l. refl; looks = λ l. absurd (true≢false (sym (not-false (is_leader v.role) h) ∙ l)) }))
 
   -- ---- requests
 

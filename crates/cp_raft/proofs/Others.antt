@@ -5,12 +5,12 @@ use Rattle.std.proofs.lemmas.Bool.{cases_Bool}
 use Rattle.std.proofs.lemmas.Bool.Decides.{nat_tests}
 use Rattle.std.proofs.lemmas.List.{length-append}
 use Rattle.cp_grammar.specs.Lists.{ItemsFit}
-use Rattle.cp_spelling.specs.Common as common
-use Rattle.cp_spelling.specs.Common.{member_after, last_number, or_zero}
-use Rattle.cp_store_state.specs.Persistent.{PersistentState}
-use Rattle.cp_step.specs.Persistent.{members, others}
-use Rattle.cp_step_ranges.specs.Ranges.{IsMember, StoredIsInRange}
-use Rattle.cp_step_ranges.proofs.Members.{after_fits}
+use Rattle.cp_grammar.specs.Common as common
+use Rattle.cp_grammar.specs.Common.{member_after, last_number, or_zero}
+use Rattle.cp_log_rules.specs.Persistent.{PersistentState}
+use Rattle.cp_rules.specs.Persistent.{members, others}
+use Rattle.cp_rules_ranges.specs.Ranges.{IsMember, StoredIsInRange}
+use Rattle.cp_rules_ranges.proofs.Members.{after_fits}
 
 -- ---- a front of a configuration, and what follows it
 

@@ -1,14 +1,14 @@
 -- What a message that has a spelling says is in range.
 use Rattle.std.proofs.Common.{◌≡◌, ℕ, List, [], ◌∷◌, map, refl, sym, ap, subst}
 use Rattle.std.specs.Prelude.{IfSome}
-use Rattle.cp_raft_message.specs.declared.entries.LogEntry.{LogEntry}
+use Rattle.cp_message.specs.declared.entries.LogEntry.{LogEntry}
 use Rattle.cp_message.specs.Messages.{message_grammar}
 use Rattle.cp_message.specs.declared.body.Body as wire
 use Rattle.cp_message.specs.declared.body.Body.TheVariants as bodies
-use Rattle.cp_step.specs.Local.{PreVote, PreVoteReply, Vote, VoteReply, Append, AppendReply, Snapshot, SnapshotReply, Confirm, Confirmed}
-use Rattle.cp_step_ranges.specs.Messages.{entry_of}
-use Rattle.cp_step_ranges.specs.Ranges.{BodyIsInRange}
-use Rattle.cp_step_ranges.proofs.Bodies.{spelled_in_range}
+use Rattle.cp_rules.specs.Local.{PreVote, PreVoteReply, Vote, VoteReply, Append, AppendReply, Snapshot, SnapshotReply, Confirm, Confirmed}
+use Rattle.cp_rules_ranges.specs.Messages.{entry_of}
+use Rattle.cp_rules_ranges.specs.Ranges.{BodyIsInRange}
+use Rattle.cp_rules_ranges.proofs.Bodies.{spelled_in_range}
 use Rattle.cp_raft_state.specs.Said.{body_in, end_in, entry_in}
 use Rattle.cp_raft.specs.Coming.{SaidIsInRange}
 

@@ -5,18 +5,18 @@ use Rattle.cp_base.specs.declared.identifier.GroupId.{GroupId}
 use Rattle.cp_log.specs.Changes.{is_state}
 use Rattle.cp_message.specs.declared.message.Message.{Message}
 use Rattle.cp_parts.specs.declared.part.Part as journal
-use Rattle.cp_store_state.specs.Persistent.{PersistentState}
-use Rattle.cp_store_state.specs.Durable.{DurableState, group_at, group_in, or_nobody}
-use Rattle.cp_step.specs.Parts.{part_of}
-use Rattle.cp_step.specs.Persistent.{Part, after_part}
-use Rattle.cp_step.specs.Volatile.{VolatileState}
-use Rattle.cp_step.specs.Local.{Event, LocalStep, is_leader}
-use Rattle.cp_step.specs.Steps.{step}
-use Rattle.cp_step.proofs.PartLaws.{parts_change_their_group}
-use Rattle.cp_step_ranges.specs.Laws as ranges
-use Rattle.cp_step_ranges.specs.Laws.{MayStep}
-use Rattle.cp_step_ranges.proofs.Steps.{steps_go_on}
-use Rattle.cp_step_ranges.proofs.Laws.{parts_are_taken}
+use Rattle.cp_log_rules.specs.Persistent.{PersistentState}
+use Rattle.cp_log_rules.specs.Durable.{DurableState, group_at, group_in, or_nobody}
+use Rattle.cp_rules.specs.Parts.{part_of}
+use Rattle.cp_rules.specs.Persistent.{Part, after_part}
+use Rattle.cp_rules.specs.Volatile.{VolatileState}
+use Rattle.cp_rules.specs.Local.{Event, LocalStep, is_leader}
+use Rattle.cp_rules.specs.Steps.{step}
+use Rattle.cp_rules.proofs.PartLaws.{parts_change_their_group}
+use Rattle.cp_rules_ranges.specs.Laws as ranges
+use Rattle.cp_rules_ranges.specs.Laws.{MayStep}
+use Rattle.cp_rules_ranges.proofs.Steps.{steps_go_on}
+use Rattle.cp_rules_ranges.proofs.Laws.{parts_are_taken}
 use Rattle.cp_raft_state.specs.declared.did.Did.{Did}
 use Rattle.cp_raft_state.specs.declared.seat.Seat.{Seat}
 use Rattle.cp_raft_state.specs.Messages.{messages_of}
@@ -101,7 +101,7 @@ wrote_so seat (Some x) = refl
 
 -- What `tell` says of a step that was decided, which had no messages before, is what a step hands over.
 pub record Tells (event : RaftEvent) (v : VolatileState) (did : Did) (now : VolatileState) (made after : RaftOut) : Type 0 where
-  pub kept : (after.messages.items ≡ made.messages.items) × ((after.answered.items ≡ made.answered.items) × (after.lost.items ≡ made.lost.items))
+  pub kept : (after.messages.items ≡ made.messages.items) × ((after.looks.items ≡ made.looks.items) × (after.lost.items ≡ made.lost.items))
   pub commit : after.commit ≡ now.commit
   pub stepped_down : after.stepped_down ≡ is_leader v.role && not (is_leader now.role)
   pub took_office : after.took_office ≡ not (is_leader v.role) && is_leader now.role
@@ -117,7 +117,7 @@ told seat v event e s did now before made after is clear d t = record {
   took_office = t.took_office ∙ ap (λ (n : VolatileState). not (is_leader v.role) && is_leader n.role) d.state;
   installed = t.installed e s.part seat.group is d.part;
   wrote = t.wrote ∙ ap is_some d.part ∙ wrote_so seat s.part;
-  answered = t.kept.1.0 ∙ d.answered;
+  looks = t.kept.1.0 ∙ d.answered;
   lost = t.kept.1.1 ∙ d.lost;
 }
 

@@ -8,24 +8,24 @@ use Rattle.cp_grammar.specs.Grammar.{whole}
 use Rattle.cp_base.specs.declared.identifier.Invocation.{Invocation}
 use Rattle.std.specs.Prelude.{Result, Ok, Err}
 use Rattle.std.specs.Option.{option_map}
-use Rattle.cp_rules.specs.Entries.{members_in}
-use Rattle.cp_store_state.specs.Persistent.{PersistentState, last}
-use Rattle.cp_store_state.specs.Configurations.{config_at, config_or}
-use Rattle.cp_step.specs.declared.ballot.Ballot.{Ballot}
-use Rattle.cp_step.specs.Limits.{beat_period, most_snapshot}
-use Rattle.cp_step.specs.Spelling.{empty_entry, snapshot_bytes}
-use Rattle.cp_step.specs.Persistent.{Part, ballot, configuration, members, is_member, others, with_part, after_part}
-use Rattle.cp_step.specs.Volatile.{Reads, VolatileState, silence}
-use Rattle.cp_step.specs.Local.{Confirm, Sent, LocalStep, does, send, is_leader}
-use Rattle.cp_step.specs.Terms.{steps_down}
-use Rattle.cp_step.specs.Commit.{commit_found, commits}
-use Rattle.cp_step.specs.Leadership.{created_part, leading, takes_leadership}
-use Rattle.cp_step.specs.PreVotes.{may_stand, stands, times_out}
-use Rattle.cp_step.specs.Snapshots.{own_head, own_snapshot}
-use Rattle.cp_step.specs.Ticks.{confirms_again, beats}
-use Rattle.cp_step_facts.proofs.Basics.{either}
-use Rattle.cp_step_facts.proofs.Ticks.{wrote}
-use Rattle.cp_raft_log.proofs.OneMore.{more, config_more}
+use Rattle.cp_agreement_facts.specs.Entries.{members_in}
+use Rattle.cp_log_rules.specs.Persistent.{PersistentState, last}
+use Rattle.cp_log_rules.specs.Configurations.{config_at, config_or}
+use Rattle.cp_rules.specs.declared.ballot.Ballot.{Ballot}
+use Rattle.cp_rules.specs.Limits.{beat_period, most_snapshot}
+use Rattle.cp_rules.specs.Spelling.{empty_entry, snapshot_bytes}
+use Rattle.cp_rules.specs.Persistent.{Part, ballot, configuration, members, is_member, others, with_part, after_part}
+use Rattle.cp_rules.specs.Volatile.{Reads, VolatileState, silence}
+use Rattle.cp_rules.specs.Local.{Confirm, Sent, LocalStep, does, send, is_leader}
+use Rattle.cp_rules.specs.Terms.{steps_down}
+use Rattle.cp_rules.specs.Commit.{commit_found, commits}
+use Rattle.cp_rules.specs.Leadership.{created_part, leading, takes_leadership}
+use Rattle.cp_rules.specs.PreVotes.{may_stand, stands, times_out}
+use Rattle.cp_rules.specs.Snapshots.{own_head, own_snapshot}
+use Rattle.cp_rules.specs.Ticks.{confirms_again, beats}
+use Rattle.cp_rules_facts.proofs.Basics.{either}
+use Rattle.cp_rules_facts.proofs.Ticks.{wrote}
+use Rattle.cp_raft_state.proofs.OneMore.{more, config_more}
 use Rattle.cp_raft.specs.Ticking.{own_bytes, own_part, from_new, is_due, beaten, beat_sends}
 
 -- ---- the member's own snapshot

@@ -7,20 +7,20 @@ use Rattle.cp_base.specs.declared.identifier.GroupId.{GroupId}
 use Rattle.cp_message.specs.declared.message.Message.{Message}
 use Rattle.cp_parts.specs.declared.part.Part as journal
 use Rattle.cp_parts.specs.declared.part.Part.TheVariants as part
-use Rattle.cp_store_state.specs.Persistent.{PersistentState}
-use Rattle.cp_step.specs.declared.ballot.Ballot.{Ballot}
-use Rattle.cp_step.specs.declared.log_end.LogEnd.{LogEnd}
-use Rattle.cp_step.specs.Parts.{part_of}
-use Rattle.cp_step.specs.Persistent.{Part, StatePart, ballot, ballot_part, log_end, members, is_member, after_part}
-use Rattle.cp_step.specs.Volatile.{Reads, VolatileState, started}
-use Rattle.cp_step.specs.Local.{Body, PreVote, PreVoteReply, Vote, VoteReply, Append, AppendReply, Snapshot, SnapshotReply, Confirm, Confirmed, Event, Tick, Got, Propose, ChangeMembers, Read, Sent, LocalStep, does, reply, is_leader, is_candidate, is_pre_candidate}
-use Rattle.cp_step.specs.Terms.{adopted, steps_down, steps_down_for, adopts}
-use Rattle.cp_step.specs.Leadership.{takes_leadership}
-use Rattle.cp_step.specs.PreVotes.{with_vote, has_quorum, becomes_candidate, counts_prevote, on_prevote_reply, is_up_to_date}
-use Rattle.cp_step.specs.Votes.{grants_vote, on_vote, counts_vote, on_vote_reply}
-use Rattle.cp_step.specs.Confirming.{is_ready, settles}
-use Rattle.cp_step.specs.Steps.{rule, step}
-use Rattle.cp_step_facts.proofs.Basics.{either, candidate_is}
+use Rattle.cp_log_rules.specs.Persistent.{PersistentState}
+use Rattle.cp_rules.specs.declared.ballot.Ballot.{Ballot}
+use Rattle.cp_rules.specs.declared.log_end.LogEnd.{LogEnd}
+use Rattle.cp_rules.specs.Parts.{part_of}
+use Rattle.cp_rules.specs.Persistent.{Part, StatePart, ballot, ballot_part, log_end, members, is_member, after_part}
+use Rattle.cp_rules.specs.Volatile.{Reads, VolatileState, started}
+use Rattle.cp_rules.specs.Local.{Body, PreVote, PreVoteReply, Vote, VoteReply, Append, AppendReply, Snapshot, SnapshotReply, Confirm, Confirmed, Event, Tick, Got, Propose, ChangeMembers, Read, Sent, LocalStep, does, reply, is_leader, is_candidate, is_pre_candidate}
+use Rattle.cp_rules.specs.Terms.{adopted, steps_down, steps_down_for, adopts}
+use Rattle.cp_rules.specs.Leadership.{takes_leadership}
+use Rattle.cp_rules.specs.PreVotes.{with_vote, has_quorum, becomes_candidate, counts_prevote, on_prevote_reply, is_up_to_date}
+use Rattle.cp_rules.specs.Votes.{grants_vote, on_vote, counts_vote, on_vote_reply}
+use Rattle.cp_rules.specs.Confirming.{is_ready, settles}
+use Rattle.cp_rules.specs.Steps.{rule, step}
+use Rattle.cp_rules_facts.proofs.Basics.{either, candidate_is}
 use Rattle.cp_raft_state.specs.declared.did.Did.{Did}
 use Rattle.cp_raft_state.specs.declared.seat.Seat.{Seat}
 use Rattle.cp_raft_state.specs.Doing.{Does}

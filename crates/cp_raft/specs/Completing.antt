@@ -1,10 +1,10 @@
 -- What a message completes.
 use Rattle.std.specs.Prelude.{ℕ, List, Option, None}
 use Rattle.cp_message.specs.declared.body.Body as wire
-use Rattle.cp_store_state.specs.Persistent.{PersistentState}
-use Rattle.cp_step.specs.Local.{Body, PreVote, PreVoteReply, Vote, VoteReply, Append, AppendReply, Snapshot, SnapshotReply, Confirm, Confirmed}
-use Rattle.cp_step.specs.Snapshots.{completes}
-use Rattle.cp_step.specs.Volatile.{VolatileState}
+use Rattle.cp_log_rules.specs.Persistent.{PersistentState}
+use Rattle.cp_rules.specs.Local.{Body, PreVote, PreVoteReply, Vote, VoteReply, Append, AppendReply, Snapshot, SnapshotReply, Confirm, Confirmed}
+use Rattle.cp_rules.specs.Snapshots.{completes}
+use Rattle.cp_rules.specs.Volatile.{VolatileState}
 use Rattle.std.specs.Option.{option_and_then}
 use Rattle.cp_raft_state.specs.Said.{body_in}
 

@@ -1,7 +1,7 @@
 -- Why a member is down after a step.
 use Rattle.std.specs.Prelude.{ℕ, Bool, true, false, Ok, Err}
 use Rattle.std.specs.declared.result.Result.{Result}
-use Rattle.cp_words.specs.Faults.{Rose}
+use Rattle.cp_base.specs.Faults.{Rose}
 use Rattle.cp_log.specs.declared.error.StoreError.{StoreError}
 use Rattle.cp_log.specs.declared.error.StoreError.TheVariants as error
 use Rattle.cp_parts.specs.declared.down.Down.{Down}

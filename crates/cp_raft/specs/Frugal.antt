@@ -2,11 +2,11 @@
 use Rattle.std.specs.Prelude.{◌≡◌, ℕ, Bool, true, false, List, [], filter, Option, Some, None}
 use Rattle.cp_parts.specs.declared.part.Part as journal
 use Rattle.cp_parts.specs.declared.part.Part.TheVariants as part
-use Rattle.cp_store_state.specs.Persistent.{PersistentState}
-use Rattle.cp_step.specs.Confirming.{is_ready}
-use Rattle.cp_step.specs.Local.{Body, PreVote, PreVoteReply, Vote, VoteReply, Append, AppendReply, Snapshot, SnapshotReply, Confirm, Confirmed, Event, Tick, Got, Propose, ChangeMembers, Read}
-use Rattle.cp_step.specs.Persistent.{members}
-use Rattle.cp_step.specs.Volatile.{VolatileState}
+use Rattle.cp_log_rules.specs.Persistent.{PersistentState}
+use Rattle.cp_rules.specs.Confirming.{is_ready}
+use Rattle.cp_rules.specs.Local.{Body, PreVote, PreVoteReply, Vote, VoteReply, Append, AppendReply, Snapshot, SnapshotReply, Confirm, Confirmed, Event, Tick, Got, Propose, ChangeMembers, Read}
+use Rattle.cp_rules.specs.Persistent.{members}
+use Rattle.cp_rules.specs.Volatile.{VolatileState}
 
 -- a vote, a pre-vote, or the reply to one
 abbrev pub is_on_vote : Body → Bool

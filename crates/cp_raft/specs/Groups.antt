@@ -1,7 +1,7 @@
 -- What is stored of a group of a store.
 use Rattle.cp_disk.specs.declared.disk.Disk.{Ghosts}
-use Rattle.cp_store_state.specs.Persistent.{PersistentState}
-use Rattle.cp_store_state.specs.Durable.{group_in}
+use Rattle.cp_log_rules.specs.Persistent.{PersistentState}
+use Rattle.cp_log_rules.specs.Durable.{group_in}
 use Rattle.cp_log.specs.Stores.{held_by}
 use Rattle.cp_raft.specs.declared.stored.Stored.{Stored}
 

@@ -1,8 +1,8 @@
 -- What a step hands to its caller.
 use Rattle.std.specs.Prelude.{◌≡◌, Bool, not, ◌&&◌, is_some, Option, Some, None, false, true}
-use Rattle.cp_step.specs.Persistent.{Part, StatePart, AppendPart, SnapshotPart}
-use Rattle.cp_step.specs.Local.{Event, Tick, Got, Propose, ChangeMembers, Read, LocalStep, is_leader}
-use Rattle.cp_step.specs.Volatile.{VolatileState}
+use Rattle.cp_rules.specs.Persistent.{Part, StatePart, AppendPart, SnapshotPart}
+use Rattle.cp_rules.specs.Local.{Event, Tick, Got, Propose, ChangeMembers, Read, LocalStep, is_leader}
+use Rattle.cp_rules.specs.Volatile.{VolatileState}
 use Rattle.cp_raft_state.specs.declared.seat.Seat.{Seat}
 use Rattle.cp_raft_state.specs.Messages.{messages_of}
 use Rattle.cp_raft.specs.declared.out.RaftOut.{RaftOut}
@@ -15,7 +15,7 @@ pub record IsUntouched (before after : RaftOut) : Type 0 where
   pub took_office : after.took_office ≡ before.took_office
   pub installed : after.installed ≡ before.installed
   pub wrote : after.wrote ≡ before.wrote
-  pub answered : after.answered.items ≡ before.answered.items
+  pub looks : after.looks.items ≡ before.looks.items
   pub lost : after.lost.items ≡ before.lost.items
 
 -- a snapshot part that another's chunk completed
@@ -37,5 +37,5 @@ pub record IsTold (seat : Seat) (v : VolatileState) (event : Event) (s : LocalSt
   pub took_office : after.took_office ≡ not (is_leader v.role) && is_leader s.state.role
   pub installed : after.installed ≡ is_installed event s.part
   pub wrote : after.wrote ≡ is_some s.part
-  pub answered : after.answered.items ≡ s.answered
+  pub looks : after.looks.items ≡ s.answered
   pub lost : after.lost.items ≡ s.lost

@@ -1,10 +1,10 @@
 -- What contracts see of a member.
 use Rattle.std.specs.Prelude.{◌≡◌, ◌≤◌, Some}
-use Rattle.cp_store_state.specs.Persistent.{PersistentState}
-use Rattle.cp_store_state.specs.Durable.{DurableState, group_at, group_in}
-use Rattle.cp_step.specs.Limits.{most_index}
-use Rattle.cp_step.specs.Volatile.{VolatileState}
-use Rattle.cp_step_ranges.specs.Laws as ranges
+use Rattle.cp_log_rules.specs.Persistent.{PersistentState}
+use Rattle.cp_log_rules.specs.Durable.{DurableState, group_at, group_in}
+use Rattle.cp_rules.specs.Limits.{most_index}
+use Rattle.cp_rules.specs.Volatile.{VolatileState}
+use Rattle.cp_rules_ranges.specs.Laws as ranges
 use Rattle.cp_raft_state.specs.declared.seat.Seat.{Seat}
 use Rattle.cp_raft.specs.declared.raft.Raft.{Raft}
 use Rattle.cp_raft.specs.Frugal.{NoneReady}

@@ -5,12 +5,12 @@ use Rattle.cp_parts.specs.declared.log_entry.LogEntry.{LogEntry}
 use Rattle.cp_parts.specs.declared.part.Part as journal
 use Rattle.cp_parts.specs.declared.part.Part.TheVariants as part
 use Rattle.cp_parts.specs.Configs.{config_in}
-use Rattle.cp_store_state.specs.Persistent.{PersistentState, last}
-use Rattle.cp_store_state.specs.Configurations.{config_or}
-use Rattle.cp_step.specs.Confirming.{is_ready}
-use Rattle.cp_step.specs.Local.{is_leader}
-use Rattle.cp_step.specs.Persistent.{configuration}
-use Rattle.cp_step.specs.Volatile.{VolatileState, no_reads}
+use Rattle.cp_log_rules.specs.Persistent.{PersistentState, last}
+use Rattle.cp_log_rules.specs.Configurations.{config_or}
+use Rattle.cp_rules.specs.Confirming.{is_ready}
+use Rattle.cp_rules.specs.Local.{is_leader}
+use Rattle.cp_rules.specs.Persistent.{configuration}
+use Rattle.cp_rules.specs.Volatile.{VolatileState, no_reads}
 use Rattle.cp_raft_state.specs.Looking.{without_ready}
 use Rattle.cp_raft.specs.declared.out.RaftOut.{RaftOut}
 
@@ -39,6 +39,6 @@ members_after p part = (config_or (brought_by (last p + 1) part) (configuration 
 
 -- One that leads, with these members, answers the reads that are ready; who does not lead keeps none.
 pub record Settles (me : ℕ) (members : List ℕ) (before after : VolatileState) (out : RaftOut) : Type 0 where
-  pub answered : out.answered.items ≡ (if is_leader before.role then filter (is_ready me members before.reads before.commit) before.reads.looks else [])
+  pub answered : out.looks.items ≡ (if is_leader before.role then filter (is_ready me members before.reads before.commit) before.reads.looks else [])
   pub lost : out.lost.items ≡ (if is_leader before.role then [] else before.reads.looks)
   pub state : after ≡ (if is_leader before.role then without_ready me members before else record before { reads = no_reads })

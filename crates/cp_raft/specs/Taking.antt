@@ -1,6 +1,6 @@
 -- Changes of members that may be asked for.
-use Rattle.cp_step.specs.Local.{Event, Tick, Got, Propose, ChangeMembers, Read}
-use Rattle.cp_step_ranges.specs.Ranges.{IsMember}
+use Rattle.cp_rules.specs.Local.{Event, Tick, Got, Propose, ChangeMembers, Read}
+use Rattle.cp_rules_ranges.specs.Ranges.{IsMember}
 
 -- a change names a member by its number
 abbrev pub NamesMember : Event → Type 0

@@ -1,14 +1,14 @@
 -- A tick, by its parts: the member's own snapshot, and a leader's beat.
 use Rattle.std.specs.Prelude.{ℕ, ◌-◌, Bool, ◌&&◌, if◌then◌else◌, List, [], ◌++◌, length, map, Option, Some, None, nat_le}
-use Rattle.cp_store_state.specs.Persistent.{PersistentState}
-use Rattle.cp_step.specs.Limits.{beat_period, most_snapshot}
-use Rattle.cp_step.specs.Local.{Sent}
-use Rattle.cp_step.specs.Persistent.{Part, SnapshotPart, ballot}
-use Rattle.cp_step.specs.Sending.{appends}
-use Rattle.cp_step.specs.Snapshots.{own_head, from_start}
-use Rattle.cp_step.specs.Spelling.{snapshot_bytes}
-use Rattle.cp_step.specs.Ticks.{confirms_again}
-use Rattle.cp_step.specs.Volatile.{VolatileState}
+use Rattle.cp_log_rules.specs.Persistent.{PersistentState}
+use Rattle.cp_rules.specs.Limits.{beat_period, most_snapshot}
+use Rattle.cp_rules.specs.Local.{Sent}
+use Rattle.cp_rules.specs.Persistent.{Part, SnapshotPart, ballot}
+use Rattle.cp_rules.specs.Sending.{appends}
+use Rattle.cp_rules.specs.Snapshots.{own_head, from_start}
+use Rattle.cp_rules.specs.Spelling.{snapshot_bytes}
+use Rattle.cp_rules.specs.Ticks.{confirms_again}
+use Rattle.cp_rules.specs.Volatile.{VolatileState}
 
 -- ---- the member's own snapshot
 

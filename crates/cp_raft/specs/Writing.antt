@@ -2,10 +2,10 @@
 use Rattle.std.specs.Prelude.{◌≤◌, ◌<◌, ◌+◌, ◌^◌, ℕ, length, Option, Some, None, IsTrue}
 use Rattle.cp_parts.specs.declared.part.Part as journal
 use Rattle.cp_parts.specs.Parts.{part_grammar}
-use Rattle.cp_store_state.specs.Durable.{DurableState, with_part}
-use Rattle.cp_store_state.specs.Legal.{is_legal}
-use Rattle.cp_step.specs.Parts.{part_of}
-use Rattle.cp_step.specs.Persistent.{Part}
+use Rattle.cp_log_rules.specs.Durable.{DurableState, with_part}
+use Rattle.cp_log_rules.specs.Legal.{is_legal}
+use Rattle.cp_rules.specs.Parts.{part_of}
+use Rattle.cp_rules.specs.Persistent.{Part}
 use Rattle.cp_raft_state.specs.declared.seat.Seat.{Seat}
 
 abbrev pub after_part : Option journal.Part → DurableState → DurableState

@@ -1,11 +1,11 @@
 //! What a step does, before its part is written.
 ghost use Rattle.std.specs.Prelude.{◌≡◌, ◌≤◌, true, false, [], Some, IfOk, IsOk, OnOk, IfSome, IsSome};
 ghost use Rattle.std.specs.Option.{ForSome};
-ghost use Rattle.cp_store_state.specs.Persistent.{last};
-ghost use Rattle.cp_step.specs.Limits.{most_index};
-ghost use Rattle.cp_step.specs.Local.{Event, is_leader};
-ghost use Rattle.cp_step.specs.Steps as steps;
-ghost use Rattle.cp_step_ranges.specs.Laws.{MayStep};
+ghost use Rattle.cp_log_rules.specs.Persistent.{last};
+ghost use Rattle.cp_rules.specs.Limits.{most_index};
+ghost use Rattle.cp_rules.specs.Local.{Event, is_leader};
+ghost use Rattle.cp_rules.specs.Steps as steps;
+ghost use Rattle.cp_rules_ranges.specs.Laws.{MayStep};
 ghost use Rattle.cp_raft_state.specs.Doing.{Does};
 ghost use Rattle.cp_raft_state.specs.Room.{spare};
 ghost use Rattle.cp_raft.specs.Deciding.{Decides};
@@ -24,8 +24,7 @@ use cp_base::NoMemory;
 use cp_election::is_leader;
 use cp_message::Message;
 use cp_raft_leading::{on_change, on_propose, on_read};
-use cp_raft_log::Group;
-use cp_raft_state::{Did, Seat, Volatile};
+use cp_raft_state::{Did, Group, Seat, Volatile};
 use std::alloc::Global;
 
 /// What the rule of the event does.
@@ -59,7 +58,7 @@ fn rule<G: Group>(
         RaftEvent::Change(change, plan, call) => {
             on_change(alloc, stored, seat, change, *plan, call, state, out)
         }
-        RaftEvent::Read(call, attempt, op) => {
+        RaftEvent::Look(call, attempt, op) => {
             on_read(
                 alloc,
                 stored,
@@ -89,10 +88,10 @@ fn settle<G: Group>(
     ensures frugal { (is_leader state.old.role ≡ true → (has_entries did.now.part ≡ false) × NoneReady seat.me (G.stored stored.now) state.old) → IsOk result }
 {
     if is_leader(state.role()) {
-        out.answered = take_ready(alloc, stored, seat, &did.part, state)?;
+        out.looks = take_ready(alloc, stored, seat, &did.part, state)?;
         out.lost = Vec::new(alloc);
     } else {
-        out.answered = Vec::new(alloc);
+        out.looks = Vec::new(alloc);
         out.lost = state.lose_reads(alloc);
     }
     Ok(())

@@ -1,13 +1,13 @@
 //! Standing for election, and what a member takes from the replies.
 ghost use Rattle.std.specs.Prelude.{◌≡◌, ◌≤◌, ◌<◌, false, length, IfOk, IsOk};
-ghost use Rattle.cp_store_state.specs.Persistent.{last};
-ghost use Rattle.cp_step.specs.declared.role.Role.TheVariants as role;
-ghost use Rattle.cp_step.specs.Limits.{most_index};
-ghost use Rattle.cp_step.specs.Local as local;
-ghost use Rattle.cp_step.specs.Persistent.{members, others};
-ghost use Rattle.cp_step.specs.PreVotes as prevotes;
-ghost use Rattle.cp_step.specs.Votes as votes;
-ghost use Rattle.cp_step_ranges.specs.Laws.{MayStep};
+ghost use Rattle.cp_log_rules.specs.Persistent.{last};
+ghost use Rattle.cp_rules.specs.declared.role.Role.TheVariants as role;
+ghost use Rattle.cp_rules.specs.Limits.{most_index};
+ghost use Rattle.cp_rules.specs.Local as local;
+ghost use Rattle.cp_rules.specs.Persistent.{members, others};
+ghost use Rattle.cp_rules.specs.PreVotes as prevotes;
+ghost use Rattle.cp_rules.specs.Votes as votes;
+ghost use Rattle.cp_rules_ranges.specs.Laws.{MayStep};
 ghost use Rattle.cp_election.specs.declared.replying.VoteReplied.TheVariants as replies;
 ghost use Rattle.cp_election.specs.declared.waiting.Stand.TheVariants as stand;
 ghost use Rattle.cp_election.specs.Laws.{stood, after_prevote_reply, after_vote_reply};
@@ -17,13 +17,10 @@ ghost use Rattle.cp_raft.specs.Offices.{takes_office};
 
 use cp_base::NoMemory;
 use cp_election::{Stand, VoteReplied, has_quorum, pre_vote_replied, standing, vote_replied};
-use cp_message::Message;
+use cp_message::{Message, VoteReply};
 use cp_parts::Part;
-use cp_raft_leading::{adopts, takes_leadership};
-use cp_raft_log::{Group, log_end, members};
-use cp_raft_message::VoteReply;
-use cp_raft_sending::{Ask, ask_others};
-use cp_raft_state::{Did, Seat, Volatile, done};
+use cp_raft_leading::{Ask, adopts, ask_others, takes_leadership};
+use cp_raft_state::{Did, Group, Seat, Volatile, done, log_end, members};
 use std::alloc::Global;
 
 /// Asks all others whether they would vote for the member.

@@ -2,7 +2,7 @@
 
 use cp_base::{Invocation, Items};
 use cp_message::Message;
-use cp_step::Change;
+use cp_rules::Change;
 
 /// What comes to a member of a group.
 #[derive(Debug, Drop)]
@@ -24,5 +24,5 @@ pub enum RaftEvent {
     /// A change of members, with the number of the plan that it follows, or 0, and the call that asked for it.
     Change(Change, u64, Option<Invocation>),
     /// A call that reads, its attempt, and what it reads.
-    Read(Invocation, u64, Items<u8>),
+    Look(Invocation, u64, Items<u8>),
 }

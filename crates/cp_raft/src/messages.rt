@@ -1,9 +1,9 @@
 //! Which rule a message takes.
 ghost use Rattle.std.specs.Prelude.{◌≡◌, ◌≤◌, true, false, Some, IfOk, IsOk, IfSome, IsSome};
 ghost use Rattle.std.specs.Option.{ForSome};
-ghost use Rattle.cp_step.specs.Local as local;
-ghost use Rattle.cp_step.specs.Steps as steps;
-ghost use Rattle.cp_step_ranges.specs.Laws.{MayStep};
+ghost use Rattle.cp_rules.specs.Local as local;
+ghost use Rattle.cp_rules.specs.Steps as steps;
+ghost use Rattle.cp_rules_ranges.specs.Laws.{MayStep};
 ghost use Rattle.cp_raft_state.specs.Doing.{Does};
 ghost use Rattle.cp_raft_state.specs.Room.{spare};
 ghost use Rattle.cp_raft_state.specs.Said.{body_in};
@@ -15,8 +15,7 @@ use cp_base::NoMemory;
 use cp_message::{Body, Message};
 use cp_raft_following::{on_append, on_confirm, on_prevote, on_snapshot, on_vote};
 use cp_raft_leading::{on_append_reply, on_confirmed, on_snapshot_reply};
-use cp_raft_log::Group;
-use cp_raft_state::{Did, Seat, Volatile};
+use cp_raft_state::{Did, Group, Seat, Volatile};
 use std::alloc::Global;
 
 /// A message comes from another member of the group. One on a vote that brings no leadership takes no memory where there is

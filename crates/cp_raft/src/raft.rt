@@ -1,7 +1,7 @@
 //! One member of one group.
 ghost use Rattle.std.specs.Prelude.{◌≡◌, ◌⊎◌, ◌≤◌, ◌<◌, ◌+◌, ◌^◌, true, false, length, is_some, not, [], ◌&&◌, Option, None, Some, IfOk, OnOk, OnErr, IfErr, IfSome, IsSome, IsErrOf};
 ghost use Rattle.std.specs.Option.{option_map, ForSome};
-ghost use Rattle.cp_words.specs.Faults.{Rose};
+ghost use Rattle.cp_base.specs.Faults.{Rose};
 ghost use Rattle.cp_disk.specs.Images.{Only};
 ghost use Rattle.cp_journal.specs.Moments.{LeavesOnly};
 ghost use Rattle.cp_log.specs.Changes.{is_state};
@@ -9,17 +9,17 @@ ghost use Rattle.cp_log.specs.Files.{IsSound, StandsForEither};
 ghost use Rattle.cp_log.specs.Stores.{held_by, first_of, disk_of, is_spent, bytes_of};
 ghost use Rattle.cp_parts.specs.declared.down.Down.TheVariants as down;
 ghost use Rattle.cp_parts.specs.Parts.{part_grammar};
-ghost use Rattle.cp_store_state.specs.Durable.{group_in, has_group, with_part};
-ghost use Rattle.cp_step.specs.Parts.{part_of};
+ghost use Rattle.cp_log_rules.specs.Durable.{group_in, has_group, with_part};
+ghost use Rattle.cp_rules.specs.Parts.{part_of};
 ghost use Rattle.cp_base.specs.declared.identifier.GroupId.{GroupId as Group};
-ghost use Rattle.cp_step.specs.Local.{Event, is_leader};
-ghost use Rattle.cp_step.specs.Persistent.{Part as Written};
-ghost use Rattle.cp_step.specs.Snapshots as snapshots;
-ghost use Rattle.cp_step.specs.Steps.{step};
-ghost use Rattle.cp_step.specs.Volatile.{started};
-ghost use Rattle.cp_step_facts.specs.Soundness as soundness;
-ghost use Rattle.cp_step_ranges.specs.Laws.{MayStep};
-ghost use Rattle.cp_step_ranges.specs.Ranges.{IsInRange};
+ghost use Rattle.cp_rules.specs.Local.{Event, is_leader};
+ghost use Rattle.cp_rules.specs.Persistent.{Part as Written};
+ghost use Rattle.cp_rules.specs.Snapshots as snapshots;
+ghost use Rattle.cp_rules.specs.Steps.{step};
+ghost use Rattle.cp_rules.specs.Volatile.{started};
+ghost use Rattle.cp_rules_facts.specs.Soundness as soundness;
+ghost use Rattle.cp_rules_ranges.specs.Laws.{MayStep};
+ghost use Rattle.cp_rules_ranges.specs.Ranges.{IsInRange};
 ghost use Rattle.cp_raft_state.specs.Room.{spare};
 ghost use Rattle.cp_raft.specs.Completing.{completed};
 ghost use Rattle.cp_raft.specs.Downs.{StepCause, is_disk_fault, of_store};
@@ -41,7 +41,7 @@ use cp_log::{Store, StoreError};
 use cp_message::{Body, Message};
 use cp_parts::{Down, Part};
 use cp_raft_state::{Seat, Volatile};
-use cp_step::{Outcome, Role};
+use cp_rules::{Outcome, Role};
 use std::alloc::Global;
 
 /// One member of one Raft group, over its store.
@@ -106,16 +106,16 @@ fn is_installed(event: &RaftEvent, part: &Option<Part>) -> bool
 
 /// Hands nothing over.
 fn give_up(out: &mut RaftOut)
-    ensures { (out.new.messages.items ≡ []) × ((out.new.answered.items ≡ []) × (out.new.lost.items ≡ [])) }
+    ensures { (out.new.messages.items ≡ []) × ((out.new.looks.items ≡ []) × (out.new.lost.items ≡ [])) }
 {
     out.messages.clear();
-    out.answered.clear();
+    out.looks.clear();
     out.lost.clear();
 }
 
 /// Says what a step did.
 fn tell(event: &RaftEvent, before: Role, part: &Option<Part>, state: &Volatile, out: &mut RaftOut)
-    ensures kept { (out.new.messages.items ≡ out.old.messages.items) × ((out.new.answered.items ≡ out.old.answered.items) × (out.new.lost.items ≡ out.old.lost.items)) }
+    ensures kept { (out.new.messages.items ≡ out.old.messages.items) × ((out.new.looks.items ≡ out.old.looks.items) × (out.new.lost.items ≡ out.old.lost.items)) }
     ensures commit { out.new.commit ≡ state.now.commit }
     ensures stepped_down { out.new.stepped_down ≡ is_leader before && not (is_leader state.now.role) }
     ensures took_office { out.new.took_office ≡ not (is_leader before) && is_leader state.now.role }
@@ -222,7 +222,7 @@ impl Raft {
         ensures stays { (e : Event) → event_of event.now ≡ Some e → OnOk result (MayGoOn (held_by store.new) (seat_of self.new) (state_of self.new)) }
 
         // Where it is down nothing is handed over, and the store has what it had.
-        ensures nothing_sent { OnErr result ((out.new.messages.items ≡ []) × ((out.new.answered.items ≡ []) × (out.new.lost.items ≡ []))) }
+        ensures nothing_sent { OnErr result ((out.new.messages.items ≡ []) × ((out.new.looks.items ≡ []) × (out.new.lost.items ≡ []))) }
         ensures nothing_held { OnErr result (held_by store.new ≡ held_by store.old) }
         ensures cause { IfErr result (StepCause (D.faults (disk_of store.old)) (D.faults (disk_of store.new))) }
         ensures later { (D.faults (disk_of store.old) ≤ D.faults (disk_of store.new)) × (D.starved (disk_of store.old) ≤ D.starved (disk_of store.new)) }

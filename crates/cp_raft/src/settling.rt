@@ -1,16 +1,15 @@
 //! Reads after a rule.
 ghost use Rattle.std.specs.Prelude.{◌≡◌, ◌≤◌, false, filter, IfOk, IsOk, OnOk};
-ghost use Rattle.cp_store_state.specs.Persistent.{last};
-ghost use Rattle.cp_step.specs.Limits.{most_index};
-ghost use Rattle.cp_step.specs.Confirming.{is_ready};
+ghost use Rattle.cp_log_rules.specs.Persistent.{last};
+ghost use Rattle.cp_rules.specs.Limits.{most_index};
+ghost use Rattle.cp_rules.specs.Confirming.{is_ready};
 ghost use Rattle.cp_raft_state.specs.Looking.{without_ready};
 ghost use Rattle.cp_raft.specs.Frugal.{NoneReady, has_entries};
 ghost use Rattle.cp_raft.specs.Settling.{brought_by, members_after};
 
 use cp_base::NoMemory;
 use cp_parts::{Config, Part, config_of_entry};
-use cp_raft_log::{Group, members};
-use cp_raft_state::{Look, Seat, Volatile};
+use cp_raft_state::{Group, Look, Seat, Volatile, members};
 use std::alloc::Global;
 
 /// The configuration that the part of a leader's step brings, with an entry at this index.

@@ -1,18 +1,18 @@
 //! The member's own snapshot.
 ghost use Rattle.std.specs.Prelude.{◌≡◌, ◌≤◌, ℕ, List, Some, IfOk};
 ghost use Rattle.cp_parts.specs.Heads.{head_grammar};
-ghost use Rattle.cp_store_state.specs.Persistent.{last};
-ghost use Rattle.cp_step.specs.Snapshots as snapshots;
-ghost use Rattle.cp_step.specs.Spelling as spelling;
-ghost use Rattle.cp_step_facts.specs.Soundness.{ReadsBack};
+ghost use Rattle.cp_log_rules.specs.Persistent.{last};
+ghost use Rattle.cp_rules.specs.Snapshots as snapshots;
+ghost use Rattle.cp_rules.specs.Spelling as spelling;
+ghost use Rattle.cp_rules_facts.specs.Soundness.{ReadsBack};
 ghost use Rattle.cp_raft.specs.Ticking.{if_fits, own_bytes};
 
 use cp_base::{Items, NoMemory};
+use cp_grammar::Spelled;
 use cp_parts::SnapshotHead;
-use cp_raft_log::Group;
+use cp_raft_state::Group;
 use cp_replicate::known_term;
 use cp_snapshot::fits;
-use cp_spelling::Spelled;
 use std::alloc::Global;
 
 /// What a snapshot of an index begins with.

@@ -1,13 +1,13 @@
 //! One group of a store.
 ghost use Rattle.std.specs.Prelude.{true, ◌≡◌};
-ghost use Rattle.cp_store_state.specs.Durable.{group_in, has_group};
+ghost use Rattle.cp_log_rules.specs.Durable.{group_in, has_group};
 ghost use Rattle.cp_log.specs.Stores.{held_by};
 
 use cp_base::GroupId;
 use cp_disk::Disk;
 use cp_log::Store;
 use cp_parts::Config;
-use cp_raft_log::Group;
+use cp_raft_state::Group;
 use cp_replicate::Log;
 
 /// What a store has of one group that stands.

@@ -2,13 +2,13 @@
 use Rattle.std.proofs.Common.{◌≡◌, ◌≤◌, ℕ, List, [], ◌∷◌, false, map, refl, ap, ◌∙◌, nat_lt, arith}
 use Rattle.std.proofs.lemmas.Bool.Decides.{nat_tests}
 use Rattle.cp_parts.specs.declared.log_entry.LogEntry.{LogEntry}
-use Rattle.cp_raft_message.specs.declared.entries.LogEntry as wire
-use Rattle.cp_store_state.specs.Persistent.{PersistentState}
-use Rattle.cp_step.specs.declared.ballot.Ballot.{Ballot}
-use Rattle.cp_step.specs.Persistent.{ballot}
-use Rattle.cp_step.specs.Volatile.{VolatileState}
-use Rattle.cp_step.specs.Terms.{adopted}
-use Rattle.cp_step.specs.Appends.{following, on_append}
+use Rattle.cp_message.specs.declared.entries.LogEntry as wire
+use Rattle.cp_log_rules.specs.Persistent.{PersistentState}
+use Rattle.cp_rules.specs.declared.ballot.Ballot.{Ballot}
+use Rattle.cp_rules.specs.Persistent.{ballot}
+use Rattle.cp_rules.specs.Volatile.{VolatileState}
+use Rattle.cp_rules.specs.Terms.{adopted}
+use Rattle.cp_rules.specs.Appends.{following, on_append}
 use Rattle.cp_replicate.specs.declared.following.Followed.{Followed}
 use Rattle.cp_replicate.specs.Decisions.{followed}
 use Rattle.cp_replicate.specs.Laws.{follows}

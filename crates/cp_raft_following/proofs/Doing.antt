@@ -1,8 +1,8 @@
 -- What does a step.
 use Rattle.std.proofs.Common.{◌≡◌, List, sym, subst, Result, IfOk}
 use Rattle.cp_message.specs.declared.message.Message.{Message}
-use Rattle.cp_step.specs.Volatile.{VolatileState}
-use Rattle.cp_step.specs.Local.{LocalStep}
+use Rattle.cp_rules.specs.Volatile.{VolatileState}
+use Rattle.cp_rules.specs.Local.{LocalStep}
 use Rattle.cp_raft_state.specs.declared.did.Did.{Did}
 use Rattle.cp_raft_state.specs.declared.seat.Seat.{Seat}
 use Rattle.cp_raft_state.specs.Doing.{Does}

@@ -1,7 +1,7 @@
 -- What an append hands over.
 use Rattle.std.specs.Prelude.{ℕ, ◌+◌, List, length, map}
 use Rattle.cp_parts.specs.declared.log_entry.LogEntry.{LogEntry}
-use Rattle.cp_raft_message.specs.declared.append.Append.{Append}
+use Rattle.cp_message.specs.declared.append.Append.{Append}
 use Rattle.cp_raft_state.specs.Said.{entry_in}
 
 abbrev pub entries_in : Append → List LogEntry

@@ -1,10 +1,10 @@
 //! Appends: a follower's log follows the leader's from the first difference on.
 ghost use Rattle.std.specs.Prelude.{true, ◌≡◌, ◌-◌, ◌≤◌, ◌++◌, drop, map, IfOk, OnOk};
 ghost use Rattle.cp_parts.specs.declared.part.Part.TheVariants as journal;
-ghost use Rattle.cp_step.specs.Appends as appends;
-ghost use Rattle.cp_step.specs.Limits.{most_index};
-ghost use Rattle.cp_step.specs.Local as local;
-ghost use Rattle.cp_step_ranges.specs.Laws.{MayStep};
+ghost use Rattle.cp_rules.specs.Appends as appends;
+ghost use Rattle.cp_rules.specs.Limits.{most_index};
+ghost use Rattle.cp_rules.specs.Local as local;
+ghost use Rattle.cp_rules_ranges.specs.Laws.{MayStep};
 ghost use Rattle.cp_raft_state.specs.Doing.{Does};
 ghost use Rattle.cp_raft_state.specs.Said.{entry_in};
 ghost use Rattle.cp_raft_state.specs.Messages.{messages_of};
@@ -13,13 +13,11 @@ ghost use Rattle.cp_raft_following.specs.Handing.{entries_in, last_in};
 
 use cp_base::{GroupId, Items, NoMemory};
 use cp_election::adopted;
-use cp_message::Message;
+use cp_message::{Append, LogEntry as Handed, Message};
 use cp_parts::{LogEntry, Part};
-use cp_raft_log::{Group, ballot_of, ballot_part};
-use cp_raft_message::{Append, LogEntry as Handed};
-use cp_raft_state::{Did, Seat, Volatile, append_reply, done, post};
+use cp_raft_state::{Did, Group, Seat, Volatile, append_reply, ballot_of, ballot_part, done, post};
 use cp_replicate::{Followed, behind, follow, follower_commit};
-use cp_step::Ballot;
+use cp_rules::Ballot;
 use std::alloc::Global;
 
 /// A copy of an entry that a leader handed over.

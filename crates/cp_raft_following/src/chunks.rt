@@ -3,17 +3,17 @@ ghost use Rattle.std.specs.Prelude.{◌≡◌, is_none, IfOk};
 ghost use Rattle.std.specs.Option.{option_map};
 ghost use Rattle.cp_parts.specs.Heads.{head_of};
 ghost use Rattle.cp_snapshot.specs.Decisions.{progress_at};
-ghost use Rattle.cp_step.specs.Snapshots as snapshots;
+ghost use Rattle.cp_rules.specs.Snapshots as snapshots;
 ghost use Rattle.cp_raft_state.specs.Doing.{Does};
 ghost use Rattle.cp_raft_following.specs.Heading.{headed};
 
 use cp_base::{Items, NoMemory};
 use cp_election::adopted;
-use cp_message::Message;
+use cp_message::{Chunk, Message};
 use cp_parts::{Part, head_of_snapshot};
-use cp_raft_log::{Group, ballot_of, ballot_part};
-use cp_raft_message::Chunk;
-use cp_raft_state::{Did, Joined, Seat, Volatile, done, post, snapshot_reply};
+use cp_raft_state::{
+    Did, Group, Joined, Seat, Volatile, ballot_of, ballot_part, done, post, snapshot_reply,
+};
 use std::alloc::Global;
 
 /// Whether bytes begin with no head of a snapshot.

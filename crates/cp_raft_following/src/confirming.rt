@@ -1,14 +1,12 @@
 //! Whether who asks still leads.
 ghost use Rattle.std.specs.Prelude.{IfOk};
-ghost use Rattle.cp_step.specs.Confirming as confirming;
+ghost use Rattle.cp_rules.specs.Confirming as confirming;
 ghost use Rattle.cp_raft_state.specs.Doing.{Does};
 
 use cp_base::NoMemory;
 use cp_election::adopted;
-use cp_message::Message;
-use cp_raft_log::{Group, ballot_of, ballot_part};
-use cp_raft_message::Confirm;
-use cp_raft_state::{Did, Seat, Volatile, confirmed, done, post};
+use cp_message::{Confirm, Message};
+use cp_raft_state::{Did, Group, Seat, Volatile, ballot_of, ballot_part, confirmed, done, post};
 
 /// A leader asks to be confirmed in a round.
 pub fn on_confirm<G: Group>(

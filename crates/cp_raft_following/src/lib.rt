@@ -1,5 +1,5 @@
 //! The rules on what others ask a member: pre-votes, votes, appends, chunks of snapshots and confirmations. Each does what
-//! its definition in `cp_step` says.
+//! its definition in `cp_rules` says.
 #![tactic(auto)]
 
 mod appending;

@@ -1,19 +1,20 @@
 //! Pre-votes and votes that a member is asked for.
 ghost use Rattle.std.specs.Prelude.{◌≡◌, ◌<◌, IfOk, IsOk};
-ghost use Rattle.cp_step.specs.Persistent.{log_end};
-ghost use Rattle.cp_step.specs.PreVotes as prevotes;
-ghost use Rattle.cp_step.specs.Votes as votes;
+ghost use Rattle.cp_rules.specs.Persistent.{log_end};
+ghost use Rattle.cp_rules.specs.PreVotes as prevotes;
+ghost use Rattle.cp_rules.specs.Votes as votes;
 ghost use Rattle.cp_raft_state.specs.Doing.{Does};
 ghost use Rattle.cp_raft_state.specs.Room.{spare};
 ghost use Rattle.cp_raft_state.specs.Said.{end_in};
 
 use cp_base::NoMemory;
 use cp_election::{adopted, grants_vote, hears_no_leader, is_up_to_date, pre_vote};
-use cp_message::Message;
-use cp_raft_log::{Group, ballot_of, ballot_part, log_end};
-use cp_raft_message::VoteRequest;
-use cp_raft_state::{Did, Seat, Volatile, done, post, pre_vote_reply, vote_reply};
-use cp_step::{Ballot, LogEnd};
+use cp_message::{Message, VoteRequest};
+use cp_raft_state::{
+    Did, Group, Seat, Volatile, ballot_of, ballot_part, done, log_end, post, pre_vote_reply,
+    vote_reply,
+};
+use cp_rules::{Ballot, LogEnd};
 
 /// The end of a candidate's log.
 fn end_of(request: &VoteRequest) -> LogEnd

@@ -1,9 +1,9 @@
 -- How far a leader commits, and what stands after it.
 use Rattle.std.proofs.Common.{◌≡◌, ℕ, ◌+◌, ◌≤◌, ⊎_elim, Bool, arith}
-use Rattle.cp_store_state.specs.Persistent.{PersistentState}
-use Rattle.cp_step.specs.Commit.{greatest, commit_found, commits}
-use Rattle.cp_step.specs.Volatile.{VolatileState}
-use Rattle.cp_step_facts.proofs.Commits.{found, committing}
+use Rattle.cp_log_rules.specs.Persistent.{PersistentState}
+use Rattle.cp_rules.specs.Commit.{greatest, commit_found, commits}
+use Rattle.cp_rules.specs.Volatile.{VolatileState}
+use Rattle.cp_rules_facts.proofs.Commits.{found, committing}
 
 pub found_from : (test : ℕ → Bool) (low n : ℕ) → low ≤ greatest test low n
 found_from test low n = ⊎_elim

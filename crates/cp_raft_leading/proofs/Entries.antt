@@ -1,16 +1,16 @@
 -- A log with one own entry more, as what a leader announces of it needs it.
 use Rattle.std.proofs.Common.{◌≡◌, ℕ, suc, ◌<◌, ◌≤◌, List, length, ap, sym, ◌∙◌, arith, subst}
-use Rattle.cp_store_state.specs.Persistent.{PersistentState, last}
-use Rattle.cp_step.specs.declared.ballot.Ballot.{Ballot}
-use Rattle.cp_step.specs.declared.peer.Peer.{Peer}
-use Rattle.cp_step.specs.Commit.{commits}
-use Rattle.cp_step.specs.Leadership.{created_part, leading}
-use Rattle.cp_step.specs.Limits.{most_index}
-use Rattle.cp_step.specs.Persistent.{with_part}
-use Rattle.cp_step.specs.Volatile.{VolatileState, everywhere, new_peer, peer}
-use Rattle.cp_step_facts.specs.Soundness.{IsPlaced}
-use Rattle.cp_step_facts.proofs.Basics.{same_everywhere}
-use Rattle.cp_raft_log.proofs.OneMore.{last_more}
+use Rattle.cp_log_rules.specs.Persistent.{PersistentState, last}
+use Rattle.cp_rules.specs.declared.ballot.Ballot.{Ballot}
+use Rattle.cp_rules.specs.declared.peer.Peer.{Peer}
+use Rattle.cp_rules.specs.Commit.{commits}
+use Rattle.cp_rules.specs.Leadership.{created_part, leading}
+use Rattle.cp_rules.specs.Limits.{most_index}
+use Rattle.cp_rules.specs.Persistent.{with_part}
+use Rattle.cp_rules.specs.Volatile.{VolatileState, everywhere, new_peer, peer}
+use Rattle.cp_rules_facts.specs.Soundness.{IsPlaced}
+use Rattle.cp_rules_facts.proofs.Basics.{same_everywhere}
+use Rattle.cp_raft_state.proofs.OneMore.{last_more}
 use Rattle.cp_raft_leading.proofs.Committed.{peers_stay}
 
 last_is : (p q : PersistentState) (b : Ballot) (entry : List ℕ) → q ≡ with_part (created_part p b entry) p → last q ≡ suc (last p)

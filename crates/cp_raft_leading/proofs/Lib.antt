@@ -2,3 +2,5 @@ pub mod Committed
 pub mod Entries
 pub mod Doing
 pub mod Members
+pub mod Others
+pub mod Copies

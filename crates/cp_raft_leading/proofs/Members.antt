@@ -3,15 +3,15 @@ use Rattle.std.proofs.Common.{◌≡◌, ◌≤◌, ℕ, List, [], ◌∷◌, �
 use Rattle.std.specs.Int.{w32}
 use Rattle.cp_codec.specs.Fields.{big_endian}
 use Rattle.cp_grammar.specs.Lists.{items_spelling}
-use Rattle.cp_spelling.specs.Common as common
-use Rattle.cp_spelling.specs.Common.{member_after}
-use Rattle.cp_store_state.specs.Persistent.{PersistentState}
-use Rattle.cp_step.specs.declared.change.Change.{Change}
-use Rattle.cp_step.specs.Changes.{changed, with_member, without_member}
-use Rattle.cp_step.specs.Persistent.{members}
-use Rattle.cp_step_facts.proofs.Basics.{either}
-use Rattle.cp_step_ranges.specs.Ranges.{StoredIsInRange}
-use Rattle.cp_step_ranges.proofs.Members.{after_fits, few_members, no_more, one_more}
+use Rattle.cp_grammar.specs.Common as common
+use Rattle.cp_grammar.specs.Common.{member_after}
+use Rattle.cp_log_rules.specs.Persistent.{PersistentState}
+use Rattle.cp_rules.specs.declared.change.Change.{Change}
+use Rattle.cp_rules.specs.Changes.{changed, with_member, without_member}
+use Rattle.cp_rules.specs.Persistent.{members}
+use Rattle.cp_rules_facts.proofs.Basics.{either}
+use Rattle.cp_rules_ranges.specs.Ranges.{StoredIsInRange}
+use Rattle.cp_rules_ranges.proofs.Members.{after_fits, few_members, no_more, one_more}
 
 items_spelled : (before ms : List ℕ) → items_spelling member_after before ms ≡ ms
 unfolding items_spelling member_after

@@ -1,13 +1,13 @@
 -- What a leader does with what it now keeps of a member.
 use Rattle.std.specs.Prelude.{ℕ, ◌≤◌, ◌&&◌, if◌then◌else◌, [], ◌∷◌, length, None, nat_lt}
-use Rattle.cp_store_state.specs.Persistent.{PersistentState, last}
-use Rattle.cp_step.specs.declared.peer.Peer.{Peer}
-use Rattle.cp_step.specs.Commit.{commits}
-use Rattle.cp_step.specs.Limits.{most_index}
-use Rattle.cp_step.specs.Local.{LocalStep, does, leads_and, is_leader}
-use Rattle.cp_step.specs.Sending.{append_to}
-use Rattle.cp_step.specs.Volatile.{VolatileState, peer, with_peer}
-use Rattle.cp_step_facts.specs.Soundness.{IsPlaced}
+use Rattle.cp_log_rules.specs.Persistent.{PersistentState, last}
+use Rattle.cp_rules.specs.declared.peer.Peer.{Peer}
+use Rattle.cp_rules.specs.Commit.{commits}
+use Rattle.cp_rules.specs.Limits.{most_index}
+use Rattle.cp_rules.specs.Local.{LocalStep, does, leads_and, is_leader}
+use Rattle.cp_rules.specs.Sending.{append_to}
+use Rattle.cp_rules.specs.Volatile.{VolatileState, peer, with_peer}
+use Rattle.cp_rules_facts.specs.Soundness.{IsPlaced}
 
 -- What holds of one that leads before its step: its commit and what it keeps of the members lie within its log.
 pub record MayLead (p : PersistentState) (v : VolatileState) : Type 0 where

@@ -3,17 +3,17 @@ ghost use Rattle.std.specs.Prelude.{◌≡◌, ◌≤◌, ◌<◌, ◌^◌, leng
 ghost use Rattle.cp_base.specs.declared.identifier.Invocation.{Invocation};
 ghost use Rattle.cp_grammar.specs.Fields.{optional};
 ghost use Rattle.cp_parts.specs.Configs as configs;
-ghost use Rattle.cp_spelling.specs.Common as common;
-ghost use Rattle.cp_spelling.specs.Common.{invocation};
-ghost use Rattle.cp_store_state.specs.Persistent.{last};
-ghost use Rattle.cp_step.specs.Changes as changes;
-ghost use Rattle.cp_step.specs.Limits.{most_index};
-ghost use Rattle.cp_step.specs.Local as local;
-ghost use Rattle.cp_step.specs.Persistent.{members};
-ghost use Rattle.cp_step.specs.Requests.{unless_refused};
-ghost use Rattle.cp_step.specs.Spelling.{members_entry};
-ghost use Rattle.cp_step_ranges.specs.Laws.{MayStep};
-ghost use Rattle.cp_step_ranges.specs.Ranges.{IsMember};
+ghost use Rattle.cp_grammar.specs.Common as common;
+ghost use Rattle.cp_grammar.specs.Common.{invocation};
+ghost use Rattle.cp_log_rules.specs.Persistent.{last};
+ghost use Rattle.cp_rules.specs.Changes as changes;
+ghost use Rattle.cp_rules.specs.Limits.{most_index};
+ghost use Rattle.cp_rules.specs.Local as local;
+ghost use Rattle.cp_rules.specs.Persistent.{members};
+ghost use Rattle.cp_rules.specs.Requests.{unless_refused};
+ghost use Rattle.cp_rules.specs.Spelling.{members_entry};
+ghost use Rattle.cp_rules_ranges.specs.Laws.{MayStep};
+ghost use Rattle.cp_rules_ranges.specs.Ranges.{IsMember};
 ghost use Rattle.cp_raft_state.specs.Doing.{Does};
 ghost use Rattle.cp_raft_leading.specs.Changing.{IsNamed};
 ghost use Rattle.cp_raft_leading.specs.Replying.{MayLead};
@@ -22,19 +22,18 @@ use crate::requesting::proposes;
 use cp_base::{Invocation, Items, NoMemory};
 use cp_change::{changed, may_change};
 use cp_election::new_peer;
+use cp_grammar::{Spelled, append_bytes, append_index, append_u8, append_u64};
 use cp_message::Message;
-use cp_raft_log::{Group, members};
-use cp_raft_state::{Did, Seat, Volatile, refused};
+use cp_raft_state::{Did, Group, Seat, Volatile, members, refused};
 use cp_replicate::{known_term, may_propose};
-use cp_spelling::{Spelled, append_bytes, append_index, append_u8, append_u64};
-use cp_step::Change;
+use cp_rules::Change;
 use std::alloc::Global;
 
 /// The byte of an entry that brings a configuration.
 const MEMBERS_ENTRY: u8 = 4;
 
 /// Appends a call.
-#[tactic(auto, unfolding(cp_spelling::specs::Common::invocation, cp_spelling::specs::Common::client_id, cp_spelling::specs::Common::thread_no))]
+#[tactic(auto, unfolding(cp_grammar::specs::Common::invocation, cp_grammar::specs::Common::client_id, cp_grammar::specs::Common::thread_no))]
 fn append_call(call: &Invocation, out: &mut Vec<u8>) -> Result<(), NoMemory>
     requires { length call.now.client.0 ≡ 16 }
     ensures { OnOk result (out.new.items ≡ out.old.items ++ invocation.spelling call.now) }

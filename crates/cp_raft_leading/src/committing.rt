@@ -1,11 +1,10 @@
 //! How far a leader commits.
 ghost use Rattle.std.specs.Prelude.{◌≡◌, ◌≤◌};
-ghost use Rattle.cp_store_state.specs.Persistent.{last};
-ghost use Rattle.cp_step.specs.Commit as commit;
+ghost use Rattle.cp_log_rules.specs.Persistent.{last};
+ghost use Rattle.cp_rules.specs.Commit as commit;
 
 use cp_election::is_member;
-use cp_raft_log::{Group, members};
-use cp_raft_state::Volatile;
+use cp_raft_state::{Group, Volatile, members};
 use cp_replicate::commit_found;
 
 /// Commits up to an index; where the commit rises, a leader that the committed configuration leaves out steps down.

@@ -1,27 +1,26 @@
 //! Taking leadership, and the entries that a leader creates.
 ghost use Rattle.std.specs.Prelude.{◌≡◌, ◌≤◌, ◌<◌, ◌++◌, ℕ, suc, length, IfOk, OnOk};
-ghost use Rattle.cp_store_state.specs.Persistent.{last};
-ghost use Rattle.cp_step.specs.Commit as commit;
-ghost use Rattle.cp_step.specs.Leadership as leadership;
-ghost use Rattle.cp_step.specs.Leadership.{created_part};
-ghost use Rattle.cp_step.specs.Limits.{most_index};
-ghost use Rattle.cp_step.specs.Parts.{part_of};
-ghost use Rattle.cp_step.specs.Persistent.{with_part};
-ghost use Rattle.cp_step.specs.Sending.{appends};
-ghost use Rattle.cp_step.specs.Spelling.{empty_entry};
-ghost use Rattle.cp_step.specs.Volatile.{peer};
-ghost use Rattle.cp_step_facts.specs.Soundness.{IsPlaced};
+ghost use Rattle.cp_log_rules.specs.Persistent.{last};
+ghost use Rattle.cp_rules.specs.Commit as commit;
+ghost use Rattle.cp_rules.specs.Leadership as leadership;
+ghost use Rattle.cp_rules.specs.Leadership.{created_part};
+ghost use Rattle.cp_rules.specs.Limits.{most_index};
+ghost use Rattle.cp_rules.specs.Parts.{part_of};
+ghost use Rattle.cp_rules.specs.Persistent.{with_part};
+ghost use Rattle.cp_rules.specs.Sending.{appends};
+ghost use Rattle.cp_rules.specs.Spelling.{empty_entry};
+ghost use Rattle.cp_rules.specs.Volatile.{peer};
+ghost use Rattle.cp_rules_facts.specs.Soundness.{IsPlaced};
 ghost use Rattle.cp_raft_state.specs.Doing.{Does};
 ghost use Rattle.cp_raft_state.specs.Messages.{messages_of};
 
+use crate::appends;
 use crate::committing::commits;
 use cp_base::{GroupId, Items, NoMemory};
 use cp_message::Message;
 use cp_parts::{LogEntry, Part};
-use cp_raft_log::{Appended, Group};
-use cp_raft_sending::appends;
-use cp_raft_state::{Did, Seat, Volatile, done};
-use cp_step::Ballot;
+use cp_raft_state::{Appended, Did, Group, Seat, Volatile, done};
+use cp_rules::Ballot;
 use std::alloc::Global;
 
 /// The part that puts an entry in a leader's ballot at the end of a log.

@@ -1,22 +1,20 @@
 //! Reads without entries.
 ghost use Rattle.std.specs.Prelude.{◌≡◌, ◌<◌, ◌==◌, ◌&&◌, [], IfOk};
-ghost use Rattle.cp_step.specs.Confirming as confirming;
-ghost use Rattle.cp_step.specs.Limits.{most_index};
-ghost use Rattle.cp_step.specs.Local as local;
-ghost use Rattle.cp_step.specs.Local.{is_leader};
-ghost use Rattle.cp_step_ranges.specs.Laws.{MayStep};
+ghost use Rattle.cp_rules.specs.Confirming as confirming;
+ghost use Rattle.cp_rules.specs.Limits.{most_index};
+ghost use Rattle.cp_rules.specs.Local as local;
+ghost use Rattle.cp_rules.specs.Local.{is_leader};
+ghost use Rattle.cp_rules_ranges.specs.Laws.{MayStep};
 ghost use Rattle.cp_raft_state.specs.Doing.{Does};
 
 use crate::replying::adopts;
+use crate::{Ask, ask_others};
 use cp_answers::Refusal;
 use cp_base::{Invocation, Items, NoMemory};
 use cp_election::is_leader;
-use cp_message::Message;
-use cp_raft_log::{Group, members};
-use cp_raft_message::Confirmed;
-use cp_raft_sending::{Ask, ask_others};
-use cp_raft_state::{Did, Seat, Volatile, done, refused};
-use cp_step::Role;
+use cp_message::{Confirmed, Message};
+use cp_raft_state::{Did, Group, Seat, Volatile, done, members, refused};
+use cp_rules::Role;
 use std::alloc::Global;
 
 /// So many reads that wait make a leader refuse another.

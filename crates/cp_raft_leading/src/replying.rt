@@ -1,35 +1,33 @@
 //! What a leader takes from replies.
 ghost use Rattle.std.specs.Prelude.{◌≡◌, ◌≤◌, ◌<◌, ◌&&◌, ◌++◌, [], ◌∷◌, length, Some, None, nat_lt, if◌then◌else◌, IfOk, OnOk};
 ghost use Rattle.cp_parts.specs.declared.part.Part.TheVariants as journal;
-ghost use Rattle.cp_store_state.specs.Persistent.{last};
-ghost use Rattle.cp_step.specs.declared.outcome.Outcome.TheVariants as outcome;
-ghost use Rattle.cp_step.specs.AppendReplies as replies;
-ghost use Rattle.cp_step.specs.Limits.{most_index};
-ghost use Rattle.cp_step.specs.Local as local;
-ghost use Rattle.cp_step.specs.Local.{does, reply, is_leader};
-ghost use Rattle.cp_step.specs.Sending.{append_to, chunk_from};
-ghost use Rattle.cp_step.specs.Snapshots as snapshots;
-ghost use Rattle.cp_step.specs.Terms as terms;
-ghost use Rattle.cp_step.specs.Terms.{steps_down};
-ghost use Rattle.cp_step.specs.Volatile.{peer, with_peer};
-ghost use Rattle.cp_step_facts.specs.Soundness.{IsPlaced};
-ghost use Rattle.cp_step_ranges.specs.Laws.{MayStep};
+ghost use Rattle.cp_log_rules.specs.Persistent.{last};
+ghost use Rattle.cp_rules.specs.declared.outcome.Outcome.TheVariants as outcome;
+ghost use Rattle.cp_rules.specs.AppendReplies as replies;
+ghost use Rattle.cp_rules.specs.Limits.{most_index};
+ghost use Rattle.cp_rules.specs.Local as local;
+ghost use Rattle.cp_rules.specs.Local.{does, reply, is_leader};
+ghost use Rattle.cp_rules.specs.Sending.{append_to, chunk_from};
+ghost use Rattle.cp_rules.specs.Snapshots as snapshots;
+ghost use Rattle.cp_rules.specs.Terms as terms;
+ghost use Rattle.cp_rules.specs.Terms.{steps_down};
+ghost use Rattle.cp_rules.specs.Volatile.{peer, with_peer};
+ghost use Rattle.cp_rules_facts.specs.Soundness.{IsPlaced};
+ghost use Rattle.cp_rules_ranges.specs.Laws.{MayStep};
 ghost use Rattle.cp_raft_state.specs.Doing.{Does};
 ghost use Rattle.cp_raft_state.specs.Messages.{messages_of};
 ghost use Rattle.cp_raft_leading.specs.Replying.{MayLead, leads_on, falls_to};
 
 use crate::committing::commits;
+use crate::{append_to, chunk_from};
 use cp_base::{GroupId, NoMemory};
 use cp_election::is_leader;
-use cp_message::Message;
+use cp_message::{AppendReply, Message, SnapshotReply};
 use cp_parts::Part;
-use cp_raft_log::{Group, members};
-use cp_raft_message::{AppendReply, SnapshotReply};
-use cp_raft_sending::{append_to, chunk_from};
-use cp_raft_state::{Did, Seat, Volatile, done, post};
+use cp_raft_state::{Did, Group, Seat, Volatile, done, members, post};
 use cp_replicate::{AppendReplied, append_replied, is_answered, matched, needs_snapshot};
+use cp_rules::{Peer, Role};
 use cp_snapshot::goes_on;
-use cp_step::{Peer, Role};
 use std::alloc::Global;
 
 /// A reply of a greater term.

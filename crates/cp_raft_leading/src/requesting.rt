@@ -1,21 +1,20 @@
 //! Entries that a leader is asked to append.
 ghost use Rattle.std.specs.Prelude.{◌≡◌, ◌≤◌, ◌<◌, ℕ, suc, length, IfOk};
-ghost use Rattle.cp_store_state.specs.Persistent.{last};
-ghost use Rattle.cp_step.specs.Limits.{most_index};
-ghost use Rattle.cp_step.specs.Local as local;
-ghost use Rattle.cp_step.specs.Requests as requests;
-ghost use Rattle.cp_step.specs.Volatile.{peer};
-ghost use Rattle.cp_step_facts.specs.Soundness.{IsPlaced};
-ghost use Rattle.cp_step_ranges.specs.Laws.{MayStep};
+ghost use Rattle.cp_log_rules.specs.Persistent.{last};
+ghost use Rattle.cp_rules.specs.Limits.{most_index};
+ghost use Rattle.cp_rules.specs.Local as local;
+ghost use Rattle.cp_rules.specs.Requests as requests;
+ghost use Rattle.cp_rules.specs.Volatile.{peer};
+ghost use Rattle.cp_rules_facts.specs.Soundness.{IsPlaced};
+ghost use Rattle.cp_rules_ranges.specs.Laws.{MayStep};
 ghost use Rattle.cp_raft_state.specs.Doing.{Does};
 
 use crate::creating::creates;
 use cp_base::{Items, NoMemory};
 use cp_message::Message;
-use cp_raft_log::{Group, ballot_of};
-use cp_raft_state::{Did, Seat, Volatile, refused};
+use cp_raft_state::{Did, Group, Seat, Volatile, ballot_of, refused};
 use cp_replicate::may_propose;
-use cp_step::Outcome;
+use cp_rules::Outcome;
 use std::alloc::Global;
 
 /// A leader appends an entry, and tells its index.

@@ -1,6 +1,6 @@
 -- What is told of a chunk, with the bytes that it makes whole.
 use Rattle.std.proofs.Common.{◌≡◌, refl, ℕ, List, Some}
-use Rattle.cp_step.specs.Snapshots as step
+use Rattle.cp_rules.specs.Snapshots as step
 use Rattle.cp_snapshot.specs.declared.assembler.Progress.TheVariants as progress
 use Rattle.cp_snapshot.specs.Decisions.{told, whole_in}
 use Rattle.cp_raft_state.specs.declared.receiving.Joined.TheVariants as joined

@@ -2,9 +2,9 @@
 use Rattle.std.specs.Prelude.{◌≡◌, List, [], ◌++◌}
 use Rattle.std.specs.Option.{option_map}
 use Rattle.cp_message.specs.declared.message.Message.{Message}
-use Rattle.cp_step.specs.Parts.{part_of}
-use Rattle.cp_step.specs.Volatile.{VolatileState}
-use Rattle.cp_step.specs.Local.{LocalStep}
+use Rattle.cp_rules.specs.Parts.{part_of}
+use Rattle.cp_rules.specs.Volatile.{VolatileState}
+use Rattle.cp_rules.specs.Local.{LocalStep}
 use Rattle.cp_raft_state.specs.declared.did.Did.{Did}
 use Rattle.cp_raft_state.specs.declared.seat.Seat.{Seat}
 use Rattle.cp_raft_state.specs.Messages.{messages_of}

@@ -1,6 +1,6 @@
 -- How far a chunk brings its snapshot.
 use Rattle.std.specs.Prelude.{length}
-use Rattle.cp_step.specs.Snapshots as step
+use Rattle.cp_rules.specs.Snapshots as step
 use Rattle.cp_raft_state.specs.declared.receiving.Joined.{Joined}
 use Rattle.cp_raft_state.specs.declared.receiving.Joined.TheVariants.{More, Whole, TooLong}
 

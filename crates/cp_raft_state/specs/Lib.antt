@@ -4,3 +4,4 @@ pub mod Said
 pub mod Joining
 pub mod Looking
 pub mod Doing
+pub mod Groups

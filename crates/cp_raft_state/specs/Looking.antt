@@ -2,8 +2,8 @@
 use Rattle.std.specs.Prelude.{ℕ, suc, Bool, List, [], ◌∷◌, ◌++◌, filter, not}
 use Rattle.cp_base.specs.declared.identifier.Invocation.{Invocation}
 use Rattle.cp_replicate.specs.Decisions as decided
-use Rattle.cp_step.specs.Confirming.{is_ready}
-use Rattle.cp_step.specs.Volatile.{Look, Reads, VolatileState}
+use Rattle.cp_rules.specs.Confirming.{is_ready}
+use Rattle.cp_rules.specs.Volatile.{Look, Reads, VolatileState}
 
 -- with a read that came when the log ended at this index
 abbrev pub waiting : ℕ → Reads → Invocation → ℕ → List ℕ → Reads

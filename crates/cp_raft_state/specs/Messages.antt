@@ -1,8 +1,8 @@
 -- What a member sends, as messages on the wire.
 use Rattle.std.specs.Prelude.{List, map}
 use Rattle.cp_message.specs.declared.message.Message.{Message}
-use Rattle.cp_step.specs.Local.{Sent}
-use Rattle.cp_step_ranges.specs.Messages.{message_of}
+use Rattle.cp_rules.specs.Local.{Sent}
+use Rattle.cp_rules_ranges.specs.Messages.{message_of}
 use Rattle.cp_raft_state.specs.declared.seat.Seat.{Seat}
 
 abbrev pub sent_by : Seat → Sent → Message

@@ -1,12 +1,12 @@
 -- What comes over the wire, as rules take it.
 use Rattle.std.specs.Prelude.{Option, Some, None, map}
 use Rattle.cp_parts.specs.declared.log_entry.LogEntry.{LogEntry}
-use Rattle.cp_raft_message.specs.declared.entries.LogEntry as wire
-use Rattle.cp_raft_message.specs.declared.vote.VoteRequest.{VoteRequest}
+use Rattle.cp_message.specs.declared.entries.LogEntry as wire
+use Rattle.cp_message.specs.declared.vote.VoteRequest.{VoteRequest}
 use Rattle.cp_message.specs.declared.body.Body as wire_body
 use Rattle.cp_message.specs.declared.body.Body.TheVariants as bodies
-use Rattle.cp_step.specs.declared.log_end.LogEnd.{LogEnd}
-use Rattle.cp_step.specs.Local.{Body, PreVote, PreVoteReply, Vote, VoteReply, Append, AppendReply, Snapshot, SnapshotReply, Confirm, Confirmed}
+use Rattle.cp_rules.specs.declared.log_end.LogEnd.{LogEnd}
+use Rattle.cp_rules.specs.Local.{Body, PreVote, PreVoteReply, Vote, VoteReply, Append, AppendReply, Snapshot, SnapshotReply, Confirm, Confirmed}
 
 abbrev pub entry_in : wire.LogEntry → LogEntry
 entry_in e = record { term = e.term; bytes = e.bytes }

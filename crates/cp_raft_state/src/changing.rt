@@ -1,16 +1,16 @@
 //! The changes of the state that rules make.
 ghost use Rattle.std.specs.Prelude.{◌≡◌, ◌<◌, ◌-◌, ◌^◌, suc, map, nat_lt, if◌then◌else◌};
-ghost use Rattle.cp_step.specs.declared.role.Role.TheVariants as role;
-ghost use Rattle.cp_step.specs.Appends.{following};
-ghost use Rattle.cp_step.specs.PreVotes.{with_vote};
-ghost use Rattle.cp_step.specs.Snapshots.{from_start};
-ghost use Rattle.cp_step.specs.Terms.{steps_down};
-ghost use Rattle.cp_step.specs.Volatile.{everywhere, new_peer, no_reads, no_votes, with_peer};
+ghost use Rattle.cp_rules.specs.declared.role.Role.TheVariants as role;
+ghost use Rattle.cp_rules.specs.Appends.{following};
+ghost use Rattle.cp_rules.specs.PreVotes.{with_vote};
+ghost use Rattle.cp_rules.specs.Snapshots.{from_start};
+ghost use Rattle.cp_rules.specs.Terms.{steps_down};
+ghost use Rattle.cp_rules.specs.Volatile.{everywhere, new_peer, no_reads, no_votes, with_peer};
 
 use crate::volatile::Volatile;
 use cp_election::{count_vote, new_peers, no_votes};
+use cp_rules::{Peer, Role};
 use cp_snapshot::from_start;
-use cp_step::{Peer, Role};
 
 /// What a leader keeps of the members where it has a new snapshot.
 fn send_from_start(peers: &mut [Peer; 10])

@@ -1,10 +1,10 @@
 //! What a rule asks for.
 ghost use Rattle.std.specs.Prelude.{◌≡◌, None};
-ghost use Rattle.cp_step.specs.declared.outcome.Outcome.TheVariants as outcome;
+ghost use Rattle.cp_rules.specs.declared.outcome.Outcome.TheVariants as outcome;
 
 use cp_answers::Refusal;
 use cp_parts::Part;
-use cp_step::Outcome;
+use cp_rules::Outcome;
 
 /// What a rule leaves to be done: a part to write, if any, and the answer to the caller.
 #[derive(Debug, Drop)]

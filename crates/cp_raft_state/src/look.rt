@@ -16,7 +16,7 @@ pub struct Look {
 }
 
 impl Model for Look {
-    ghost use Rattle.cp_step.specs.Volatile as step;
+    ghost use Rattle.cp_rules.specs.Volatile as step;
 
     ghost Value = { step.Look };
 

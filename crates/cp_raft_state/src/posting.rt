@@ -1,17 +1,17 @@
 //! The messages that a member sends.
 ghost use Rattle.std.specs.Prelude.{◌≡◌, ◌≤◌, ◌<◌, ◌+◌, ◌++◌, [], ◌∷◌, IsOk, OnOk};
-ghost use Rattle.cp_step.specs.Local as body;
+ghost use Rattle.cp_rules.specs.Local as body;
 ghost use Rattle.cp_message.specs.declared.body.Body.TheVariants as bodies;
-ghost use Rattle.cp_step_ranges.specs.Messages.{body_of};
+ghost use Rattle.cp_rules_ranges.specs.Messages.{body_of};
 ghost use Rattle.cp_raft_state.specs.Room.{spare};
 
 use crate::seat::Seat;
 use cp_base::{GroupId, Items, NoMemory};
-use cp_message::{Body, Message};
-use cp_raft_message::{
-    Append, AppendReply, Chunk, Confirm, Confirmed, LogEntry, SnapshotReply, VoteReply, VoteRequest,
+use cp_message::{
+    Append, AppendReply, Body, Chunk, Confirm, Confirmed, LogEntry, Message, SnapshotReply,
+    VoteReply, VoteRequest,
 };
-use cp_step::LogEnd;
+use cp_rules::LogEnd;
 
 /// Puts a message behind the others. It takes no memory where there is room.
 pub fn post(seat: Seat, to: u8, body: Body, out: &mut Vec<Message>) -> Result<(), NoMemory>

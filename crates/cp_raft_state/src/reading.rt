@@ -1,10 +1,10 @@
 //! What is read of the state.
 ghost use Rattle.std.specs.Prelude.{◌≡◌, length};
-ghost use Rattle.cp_step.specs.Volatile.{peer, silence};
+ghost use Rattle.cp_rules.specs.Volatile.{peer, silence};
 
 use crate::volatile::Volatile;
 use cp_election::new_peer;
-use cp_step::{Peer, Role};
+use cp_rules::{Peer, Role};
 
 impl Volatile {
     pub fn role(&self) -> Role

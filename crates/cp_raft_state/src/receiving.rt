@@ -6,7 +6,7 @@ ghost use Rattle.cp_raft_state.specs.Joining.{joined_by};
 
 use crate::volatile::Volatile;
 use cp_base::{Items, NoMemory};
-use cp_raft_message::Chunk;
+use cp_message::Chunk;
 use cp_snapshot::Progress;
 use std::alloc::Global;
 

@@ -1,11 +1,11 @@
 //! What a member keeps in memory alone.
 ghost use Rattle.std.specs.Prelude.{◌≡◌};
-ghost use Rattle.cp_step.specs.Volatile.{started};
+ghost use Rattle.cp_rules.specs.Volatile.{started};
 
 use crate::look::Look;
 use cp_election::{new_peer, no_votes};
+use cp_rules::{Peer, Role};
 use cp_snapshot::Assembler;
-use cp_step::{Peer, Role};
 use std::alloc::Global;
 use std::marker::Model;
 
@@ -33,7 +33,7 @@ pub struct Volatile {
 }
 
 impl Model for Volatile {
-    ghost use Rattle.cp_step.specs.Volatile.{VolatileState};
+    ghost use Rattle.cp_rules.specs.Volatile.{VolatileState};
 
     ghost Value = { VolatileState };
 

@@ -2,9 +2,9 @@
 ghost use Rattle.std.specs.Prelude.{◌≡◌, ◌<◌, ◌-◌, ◌^◌, [], filter, not, IfOk, IsOk, OnOk};
 ghost use Rattle.std.specs.List.{list_any};
 ghost use Rattle.cp_replicate.specs.Decisions.{is_ready};
-ghost use Rattle.cp_step.specs.Confirming as confirming;
-ghost use Rattle.cp_step.specs.Confirming.{with_round};
-ghost use Rattle.cp_step.specs.Volatile.{no_reads};
+ghost use Rattle.cp_rules.specs.Confirming as confirming;
+ghost use Rattle.cp_rules.specs.Confirming.{with_round};
+ghost use Rattle.cp_rules.specs.Volatile.{no_reads};
 ghost use Rattle.cp_raft_state.specs.Looking.{ready, waiting, without_ready};
 
 use crate::look::Look;

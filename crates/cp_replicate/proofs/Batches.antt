@@ -3,8 +3,8 @@ use Rattle.std.proofs.Common.{◌≡◌, ℕ, zero, suc, ◌+◌, ◌-◌, ◌<�
 use Rattle.std.proofs.lemmas.Bool.{cases_Bool, lt-ltb, leb-true}
 use Rattle.std.proofs.lemmas.Option.{same_Some}
 use Rattle.cp_parts.specs.declared.log_entry.LogEntry.{LogEntry}
-use Rattle.cp_store_state.specs.Persistent.{PersistentState, last}
-use Rattle.cp_step.specs.Sending.{within, batch}
+use Rattle.cp_log_rules.specs.Persistent.{PersistentState, last}
+use Rattle.cp_rules.specs.Sending.{within, batch}
 use Rattle.cp_replicate.specs.Logs.{size_at, fitting, from}
 use Rattle.cp_replicate.specs.Laws.{bytes_of, BatchesFit}
 

@@ -4,19 +4,19 @@ use Rattle.std.proofs.Math.Nat.{le_refl}
 use Rattle.std.proofs.lemmas.Bool.{cases_Bool, ltb-true, eq-eqb, eqb-true}
 use Rattle.std.proofs.lemmas.List.{drop-drop}
 use Rattle.cp_parts.specs.declared.log_entry.LogEntry.{LogEntry}
-use Rattle.cp_store_state.specs.Persistent.{PersistentState, last, term_at}
-use Rattle.cp_store_state.specs.Configurations.{config_at}
-use Rattle.cp_step.specs.declared.ballot.Ballot.{Ballot}
-use Rattle.cp_step.specs.declared.log_end.LogEnd.{LogEnd}
-use Rattle.cp_step.specs.Persistent.{AppendPart, ballot, ballot_part, members, is_member, is_term, known_term, has_term}
-use Rattle.cp_step.specs.Volatile.{VolatileState, peer, with_peer}
-use Rattle.cp_step.specs.Local.{does, reply, send, Append, AppendReply}
-use Rattle.cp_step.specs.Terms as terms
-use Rattle.cp_step.specs.Terms.{adopted, adopts}
-use Rattle.cp_step.specs.Appends.{Difference, difference, following, takes, goes_on, refused_index}
-use Rattle.cp_step.specs.AppendReplies.{matched_to}
-use Rattle.cp_step.specs.Commit.{commits}
-use Rattle.cp_step.specs.Sending.{batch, chunk_from, entries_from}
+use Rattle.cp_log_rules.specs.Persistent.{PersistentState, last, term_at}
+use Rattle.cp_log_rules.specs.Configurations.{config_at}
+use Rattle.cp_rules.specs.declared.ballot.Ballot.{Ballot}
+use Rattle.cp_rules.specs.declared.log_end.LogEnd.{LogEnd}
+use Rattle.cp_rules.specs.Persistent.{AppendPart, ballot, ballot_part, members, is_member, is_term, known_term, has_term}
+use Rattle.cp_rules.specs.Volatile.{VolatileState, peer, with_peer}
+use Rattle.cp_rules.specs.Local.{does, reply, send, Append, AppendReply}
+use Rattle.cp_rules.specs.Terms as terms
+use Rattle.cp_rules.specs.Terms.{adopted, adopts}
+use Rattle.cp_rules.specs.Appends.{Difference, difference, following, takes, goes_on, refused_index}
+use Rattle.cp_rules.specs.AppendReplies.{matched_to}
+use Rattle.cp_rules.specs.Commit.{commits}
+use Rattle.cp_rules.specs.Sending.{batch, chunk_from, entries_from}
 use Rattle.cp_election.proofs.Rules.{of_if}
 use Rattle.cp_replicate.specs.declared.following.Followed.TheVariants.{Refused, Conflict, Replaced}
 use Rattle.cp_replicate.specs.declared.replying.AppendReplied.TheVariants.{Adopted, Ignored, Matched, FellBack}

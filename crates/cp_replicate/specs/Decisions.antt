@@ -1,15 +1,15 @@
 -- What is decided of replication, on plain numbers and logs.
 use Rattle.std.specs.Prelude.{ℕ, ◌-◌, ◌==◌, Bool, not, ◌&&◌, ◌||◌, if◌then◌else◌, List, drop, length, Option, Some, None, is_none, option_map, nat_lt, nat_le, slice_index_or}
 use Rattle.cp_parts.specs.declared.log_entry.LogEntry.{LogEntry}
-use Rattle.cp_store_state.specs.Persistent.{PersistentState, last, term_at}
-use Rattle.cp_step.specs.declared.peer.Peer.{Peer}
-use Rattle.cp_step.specs.declared.role.Role.{Role}
-use Rattle.cp_step.specs.Persistent.{is_member, is_quorum, known_term, has_term}
-use Rattle.cp_step.specs.Local.{is_leader}
-use Rattle.cp_step.specs.Appends.{difference, refused_index}
-use Rattle.cp_step.specs.AppendReplies.{matched_to, next_tried}
-use Rattle.cp_step.specs.Requests.{refuses}
-use Rattle.cp_step.specs.Sending.{batch}
+use Rattle.cp_log_rules.specs.Persistent.{PersistentState, last, term_at}
+use Rattle.cp_rules.specs.declared.peer.Peer.{Peer}
+use Rattle.cp_rules.specs.declared.role.Role.{Role}
+use Rattle.cp_rules.specs.Persistent.{is_member, is_quorum, known_term, has_term}
+use Rattle.cp_rules.specs.Local.{is_leader}
+use Rattle.cp_rules.specs.Appends.{difference, refused_index}
+use Rattle.cp_rules.specs.AppendReplies.{matched_to, next_tried}
+use Rattle.cp_rules.specs.Requests.{refuses}
+use Rattle.cp_rules.specs.Sending.{batch}
 use Rattle.cp_replicate.specs.Logs.{from}
 use Rattle.cp_replicate.specs.declared.following.Followed.{Followed}
 use Rattle.cp_replicate.specs.declared.following.Followed.TheVariants.{Refused, Kept, Conflict, Replaced}

@@ -1,22 +1,22 @@
 -- The rules do what is decided.
 use Rattle.std.specs.Prelude.{◌≡◌, ◌<◌, ◌≤◌, ℕ, ◌+◌, ◌-◌, ◌&&◌, Bool, true, false, if◌then◌else◌, List, [], ◌∷◌, take, drop, length, max, Some, None, nat_lt}
 use Rattle.cp_parts.specs.declared.log_entry.LogEntry.{LogEntry}
-use Rattle.cp_store_state.specs.Persistent.{PersistentState, last}
-use Rattle.cp_store_state.specs.Configurations.{config_at}
-use Rattle.cp_step.specs.declared.ballot.Ballot.{Ballot}
-use Rattle.cp_step.specs.Limits.{batch_entries, batch_bytes}
-use Rattle.cp_step.specs.Persistent.{AppendPart, ballot, ballot_part, members}
-use Rattle.cp_step.specs.Volatile.{VolatileState, Look, Reads, peer, with_peer}
-use Rattle.cp_step.specs.Local.{Body, LocalStep, does, reply, send, leads_and, Append, AppendReply, is_leader}
-use Rattle.cp_step.specs.Terms as terms
-use Rattle.cp_step.specs.Terms.{adopted, adopts}
-use Rattle.cp_step.specs.Appends.{following, follower_commit, on_append}
-use Rattle.cp_step.specs.AppendReplies.{on_append_reply}
-use Rattle.cp_step.specs.Commit.{commits, commits_to}
-use Rattle.cp_step.specs.Sending.{append_to, batch, chunk_from}
-use Rattle.cp_step.specs.Ticks.{expires}
-use Rattle.cp_step.specs.Confirming as rounds
-use Rattle.cp_step.specs.Requests.{proposes}
+use Rattle.cp_log_rules.specs.Persistent.{PersistentState, last}
+use Rattle.cp_log_rules.specs.Configurations.{config_at}
+use Rattle.cp_rules.specs.declared.ballot.Ballot.{Ballot}
+use Rattle.cp_rules.specs.Limits.{batch_entries, batch_bytes}
+use Rattle.cp_rules.specs.Persistent.{AppendPart, ballot, ballot_part, members}
+use Rattle.cp_rules.specs.Volatile.{VolatileState, Look, Reads, peer, with_peer}
+use Rattle.cp_rules.specs.Local.{Body, LocalStep, does, reply, send, leads_and, Append, AppendReply, is_leader}
+use Rattle.cp_rules.specs.Terms as terms
+use Rattle.cp_rules.specs.Terms.{adopted, adopts}
+use Rattle.cp_rules.specs.Appends.{following, follower_commit, on_append}
+use Rattle.cp_rules.specs.AppendReplies.{on_append_reply}
+use Rattle.cp_rules.specs.Commit.{commits, commits_to}
+use Rattle.cp_rules.specs.Sending.{append_to, batch, chunk_from}
+use Rattle.cp_rules.specs.Ticks.{expires}
+use Rattle.cp_rules.specs.Confirming as rounds
+use Rattle.cp_rules.specs.Requests.{proposes}
 use Rattle.cp_replicate.specs.declared.following.Followed.{Followed}
 use Rattle.cp_replicate.specs.declared.following.Followed.TheVariants.{Refused, Kept, Conflict, Replaced}
 use Rattle.cp_replicate.specs.declared.replying.AppendReplied.{AppendReplied}

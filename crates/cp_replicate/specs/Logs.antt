@@ -1,8 +1,8 @@
 -- Entries, and a log by index.
 use Rattle.std.specs.Prelude.{ℕ, ◌-◌, List, drop, length, Option, Some, None, option_map, nat_le, if◌then◌else◌}
 use Rattle.cp_parts.specs.declared.log_entry.LogEntry.{LogEntry}
-use Rattle.cp_raft_message.specs.declared.entries.LogEntry as wire
-use Rattle.cp_store_state.specs.Persistent.{PersistentState, entry_at}
+use Rattle.cp_message.specs.declared.entries.LogEntry as wire
+use Rattle.cp_log_rules.specs.Persistent.{PersistentState, entry_at}
 
 -- an entry of an append as it stands in a log
 abbrev pub entry_of : wire.LogEntry → LogEntry

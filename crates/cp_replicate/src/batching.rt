@@ -1,8 +1,8 @@
 //! Which entries go into one append.
 ghost use Rattle.std.specs.Prelude.{◌≡◌, ◌<◌, ◌≤◌, suc, length};
-ghost use Rattle.cp_store_state.specs.Persistent.{last};
-ghost use Rattle.cp_step.specs.Limits.{most_index};
-ghost use Rattle.cp_step.specs.Sending.{batch, within};
+ghost use Rattle.cp_log_rules.specs.Persistent.{last};
+ghost use Rattle.cp_rules.specs.Limits.{most_index};
+ghost use Rattle.cp_rules.specs.Sending.{batch, within};
 ghost use Rattle.cp_replicate.specs.Logs.{size_at, fitting, from};
 
 use crate::by_index::Log;

@@ -1,7 +1,7 @@
 //! The log of a member, by index.
 ghost use Rattle.std.specs.Prelude.{◌≡◌};
 ghost use Rattle.std.specs.Option.{option_copied, option_map};
-ghost use Rattle.cp_store_state.specs.Persistent.{PersistentState, last, entry_at, term_at};
+ghost use Rattle.cp_log_rules.specs.Persistent.{PersistentState, last, entry_at, term_at};
 
 /// What decisions read of a member's log in one group.
 pub trait Log {

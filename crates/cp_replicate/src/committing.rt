@@ -1,13 +1,13 @@
 //! How far a leader commits.
 ghost use Rattle.std.specs.Prelude.{◌≡◌, ◌≤◌, ◌-◌, count_by};
-ghost use Rattle.cp_store_state.specs.Persistent.{last, term_at};
-ghost use Rattle.cp_step.specs.Commit.{greatest, holds, may_commit};
+ghost use Rattle.cp_log_rules.specs.Persistent.{last, term_at};
+ghost use Rattle.cp_rules.specs.Commit.{greatest, holds, may_commit};
 ghost use Rattle.cp_replicate.specs.Decisions.{steps_down};
 
 use crate::by_index::Log;
 use crate::following::has_term;
 use cp_election::is_member;
-use cp_step::Peer;
+use cp_rules::Peer;
 
 /// Whether a member is known to hold an index; the leader `me` holds all of its log.
 fn holds(me: u8, peers: &[Peer; 10], index: u64, member: u8) -> bool
@@ -50,7 +50,7 @@ pub fn may_commit<L: Log>(
 }
 
 /// The index up to which a leader of a term commits: the last above its commit that it may commit, else its commit.
-#[tactic(auto, using(cp_step::proofs::Searching::stops_at, cp_step::proofs::Searching::goes_down))]
+#[tactic(auto, using(cp_rules::proofs::Searching::stops_at, cp_rules::proofs::Searching::goes_down))]
 pub fn commit_found<L: Log>(
     log: &L,
     me: u8,
@@ -60,7 +60,8 @@ pub fn commit_found<L: Log>(
     commit: u64,
 ) -> u64
     requires { commit ≤ last (L.stored log.now) }
-    ensures { result ≡ greatest (may_commit me (term_at (L.stored log.now)) term members.now peers.now) commit (last (L.stored log.now) - commit) }
+    ensures { result ≡ greatest (may_commit me (term_at (L.stored log.now)) term members.now peers.now) commit (last
+        (L.stored log.now) - commit) }
 {
     let mut above = log.last() - commit;
     while above > 0 {

@@ -1,13 +1,13 @@
 //! What a follower does with an append.
 ghost use Rattle.std.specs.Prelude.{◌≡◌, ◌+◌, ◌-◌, ◌<◌, ◌^◌, drop, length, map};
-ghost use Rattle.cp_store_state.specs.Persistent.{term_at};
-ghost use Rattle.cp_step.specs.Persistent.{has_term};
-ghost use Rattle.cp_step.specs.Appends.{follower_commit, refused_index};
+ghost use Rattle.cp_log_rules.specs.Persistent.{term_at};
+ghost use Rattle.cp_rules.specs.Persistent.{has_term};
+ghost use Rattle.cp_rules.specs.Appends.{follower_commit, refused_index};
 ghost use Rattle.cp_replicate.specs.Logs.{entry_of};
 ghost use Rattle.cp_replicate.specs.Decisions.{differs, compared, followed};
 
 use crate::by_index::Log;
-use cp_raft_message::LogEntry;
+use cp_message::LogEntry;
 
 /// What a follower does with the entries of an append.
 #[derive(Clone, Copy, Debug, PartialEq, Eq)]

@@ -1,6 +1,6 @@
 //! Replication: what a follower does with an append, what a leader takes from the reply, how far it commits, what it
 //! sends and when, and which reads it answers, as decisions on plain numbers and on a log by index. Each is that of the
-//! rule in `cp_step`, and laws say that the rule does what is decided.
+//! rule in `cp_rules`, and laws say that the rule does what is decided.
 #![tactic(auto)]
 
 ghost use Rattle.cp_replicate.specs.Laws.{AppendsGoAsDecided, AppendRepliesGoAsDecided, CommitsGoAsDecided, SendsAsDecided, ExpiresAsDecided, ReadsGoAsDecided, BatchesFit};
@@ -13,8 +13,6 @@ mod following;
 mod replying;
 mod requesting;
 mod sending;
-#[cfg(test)]
-mod tests;
 
 pub use batching::batch;
 pub use by_index::Log;

@@ -1,11 +1,11 @@
 //! What a leader takes from the reply to an append.
 ghost use Rattle.std.specs.Prelude.{◌≡◌, ◌≤◌};
-ghost use Rattle.cp_step.specs.Limits.{most_index};
+ghost use Rattle.cp_rules.specs.Limits.{most_index};
 ghost use Rattle.cp_replicate.specs.Decisions.{is_answered, matched, fallen_back, append_replied};
 
 use cp_election::{is_leader, is_member};
-use cp_raft_message::AppendReply;
-use cp_step::{Peer, Role};
+use cp_message::AppendReply;
+use cp_rules::{Peer, Role};
 
 /// What a leader takes from the reply to an append, or to a whole snapshot.
 #[derive(Clone, Copy, Debug, PartialEq, Eq)]

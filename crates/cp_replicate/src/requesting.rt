@@ -1,11 +1,11 @@
 //! What refuses an entry that a member is asked to append, and an expiry.
 ghost use Rattle.std.specs.Prelude.{◌≡◌, Some, None, MatchResult};
-ghost use Rattle.cp_step.specs.Requests.{refuses};
+ghost use Rattle.cp_rules.specs.Requests.{refuses};
 ghost use Rattle.cp_replicate.specs.Decisions.{may_expire};
 
 use cp_answers::Refusal;
 use cp_election::is_leader;
-use cp_step::Role;
+use cp_rules::Role;
 
 /// The most that an index may be: 2^62.
 const MOST_INDEX: u64 = 1 << 62;

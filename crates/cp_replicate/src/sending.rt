@@ -1,15 +1,15 @@
 //! What a leader sends to a member, and when it beats.
 ghost use Rattle.std.specs.Prelude.{◌≡◌, ◌≤◌, ◌-◌, ◌&&◌, ◌||◌, nat_le};
-ghost use Rattle.cp_store_state.specs.Persistent.{last};
-ghost use Rattle.cp_step.specs.Limits.{beat_period, most_index};
-ghost use Rattle.cp_step.specs.Local.{is_leader};
-ghost use Rattle.cp_step.specs.Persistent.{known_term};
+ghost use Rattle.cp_log_rules.specs.Persistent.{last};
+ghost use Rattle.cp_rules.specs.Limits.{beat_period, most_index};
+ghost use Rattle.cp_rules.specs.Local.{is_leader};
+ghost use Rattle.cp_rules.specs.Persistent.{known_term};
 ghost use Rattle.cp_replicate.specs.Decisions.{to_send};
 
 use crate::batching::batch;
 use crate::by_index::Log;
 use cp_election::is_leader;
-use cp_step::{LogEnd, Peer, Role};
+use cp_rules::{LogEnd, Peer, Role};
 
 /// Milliseconds between two beats of a leader.
 const BEAT_PERIOD: u64 = 1_000;

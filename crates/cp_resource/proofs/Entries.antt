@@ -7,8 +7,8 @@ use Rattle.cp_ops.specs.Entries.{entry_grammar}
 use Rattle.cp_machine.specs.Machines.{AnswersFit, Stepped}
 use Rattle.cp_group_state.specs.GroupState.{GroupState}
 use Rattle.cp_group_state.specs.Apply.{apply}
-use Rattle.cp_state_ranges.specs.States.{IsSound}
-use Rattle.cp_state_ranges.specs.Laws.{IsSoundStep}
+use Rattle.cp_group_ranges.specs.States.{IsSound}
+use Rattle.cp_group_ranges.specs.Laws.{IsSoundStep}
 use Rattle.cp_resource.specs.Stepping.{standing, step, step_of, stepped}
 
 pub read_step : (s : GroupState) (index : ℕ) (bytes : List ℕ) (entry : Entry) → whole entry_grammar bytes ≡ Ok entry → step s index bytes ≡ stepped (apply index entry s)

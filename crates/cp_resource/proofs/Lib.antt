@@ -1,3 +1,7 @@
 pub mod Entries
 pub mod Timers
 pub mod Snapshots
+pub mod Held
+pub mod Sound
+pub mod Together
+pub mod Outcomes

@@ -4,11 +4,11 @@ use Rattle.std.specs.Prelude.{slice_get}
 use Rattle.std.specs.List.{filter, AllByRecursion}
 use Rattle.std.specs.Option.{option_map}
 use Rattle.std.proofs.lemmas.List.Sums.{length-filter, count_by-le-length}
-use Rattle.cp_spelling.specs.Common.{index, invocation}
+use Rattle.cp_grammar.specs.Common.{index, invocation}
 use Rattle.cp_group_state.specs.declared.rows.SessionRow.{SessionRow}
 use Rattle.cp_group_state.specs.declared.rows.Waiter.{Waiter}
 use Rattle.cp_wait.specs.Arrivals.{waits_limited}
-use Rattle.cp_state_ranges.specs.Rows.{SessionFits, WaiterFits}
+use Rattle.cp_group_ranges.specs.Rows.{SessionFits, WaiterFits}
 use Rattle.cp_resource.specs.Timing.{numbered}
 
 -- an item of the first of two lists

@@ -2,3 +2,7 @@ pub mod Stepping
 pub mod Timing
 pub mod Lawful
 pub mod Restoring
+pub mod States
+pub mod ObjectRows
+pub mod Reads
+pub mod Laws

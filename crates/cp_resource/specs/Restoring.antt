@@ -1,7 +1,7 @@
 -- Tables out of bytes.
 use Rattle.std.specs.Prelude.{◌≡◌, ℕ, Result, Ok, Err}
-use Rattle.cp_spelling.specs.declared.stop.ReadError.{ReadError}
-use Rattle.cp_spelling.specs.Readers.{Fails}
+use Rattle.cp_grammar.specs.declared.stop.ReadError.{ReadError}
+use Rattle.cp_grammar.specs.Readers.{Fails}
 use Rattle.cp_group_state.specs.GroupState.{GroupState}
 
 -- the state that the bytes restore, or the place at which they fail

@@ -9,7 +9,7 @@ use Rattle.cp_ops.specs.Entries.{entry_grammar}
 use Rattle.cp_machine.specs.Machines.{Stepped}
 use Rattle.cp_group_state.specs.GroupState.{GroupState, empty}
 use Rattle.cp_group_state.specs.Apply.{Applied, apply}
-use Rattle.cp_group_reads.specs.Reads.{look}
+use Rattle.cp_resource.specs.Reads.{look}
 
 -- A machine that is spent, for want of memory, stands for a new one.
 abbrev pub standing : Bool → GroupState → GroupState

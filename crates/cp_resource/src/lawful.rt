@@ -8,8 +8,8 @@ ghost use Rattle.cp_resource.specs.Timing.{timers_of};
 use crate::machine::GroupMachine;
 use cp_answers::Answer;
 use cp_base::{GroupId, Invocation, Items, NoMemory};
+use cp_grammar::ReadError;
 use cp_machine::{Machine, Timer};
-use cp_spelling::ReadError;
 use std::alloc::Global;
 
 impl Machine for GroupMachine {

@@ -12,10 +12,10 @@ use crate::steps::{apply_bytes, look_at};
 use crate::timing::{count, timer_at};
 use cp_answers::Answer;
 use cp_base::{GroupId, Invocation, Items, NoMemory};
+use cp_grammar::ReadError;
+use cp_group_ranges::first_state_is_sound;
 use cp_group_tables::GroupTables;
 use cp_machine::Timer;
-use cp_spelling::ReadError;
-use cp_state_ranges::first_state_is_sound;
 use std::alloc::Global;
 use std::marker::Model;
 
@@ -30,7 +30,7 @@ pub struct GroupMachine {
 
 impl Model for GroupMachine {
     ghost use Rattle.cp_group_state.specs.GroupState.{GroupState};
-    ghost use Rattle.cp_state_ranges.specs.States.{IsSound};
+    ghost use Rattle.cp_group_ranges.specs.States.{IsSound};
     ghost use Rattle.cp_resource.specs.Stepping.{standing};
 
     ghost Value = { GroupState };

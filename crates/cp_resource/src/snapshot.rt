@@ -1,14 +1,14 @@
 //! The bytes of a group's tables, and tables out of them.
 ghost use Rattle.std.specs.Prelude.{◌≡◌, ◌++◌, Ok, IfOk, OnOk, OnErr};
 ghost use Rattle.cp_state_bytes.specs.States.{restored, spelled};
-ghost use Rattle.cp_state_ranges.specs.States.{IsSound};
+ghost use Rattle.cp_group_ranges.specs.States.{IsSound};
 ghost use Rattle.cp_resource.specs.Restoring.{RestoresTables};
 
+use crate::tables_of;
 use cp_base::NoMemory;
-use cp_group_rows::tables_of;
+use cp_grammar::ReadError;
 use cp_group_tables::GroupTables;
-use cp_spelling::ReadError;
-use cp_state_writing::LentState;
+use cp_state_bytes::LentState;
 use std::alloc::Global;
 
 /// Appends bytes that restore to the tables' state, or leaves `out`.
@@ -36,7 +36,7 @@ pub(crate) fn write_tables(tables: &GroupTables, out: &mut Vec<u8>) -> Result<()
         memory: tables.memory().rows(),
         maps: tables.maps().rows(),
     };
-    let written = cp_state_writing::write(&lent, out);
+    let written = cp_state_bytes::write(&lent, out);
     let LentState {
         destroyed_group: _,
         sessions: _,

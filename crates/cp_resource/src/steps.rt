@@ -3,17 +3,17 @@ ghost use Rattle.std.specs.Prelude.{◌≡◌, ◌++◌, ◌≤◌, ◌^◌, OnO
 ghost use Rattle.cp_ops.specs.Entries.{entry_grammar};
 ghost use Rattle.cp_machine.specs.Machines.{AnswersFit};
 ghost use Rattle.cp_group_state.specs.Apply.{apply};
-ghost use Rattle.cp_state_ranges.specs.States.{IsSound};
-ghost use Rattle.cp_state_ranges.specs.Laws.{IsSoundStep};
+ghost use Rattle.cp_group_ranges.specs.States.{IsSound};
+ghost use Rattle.cp_group_ranges.specs.Laws.{IsSoundStep};
 ghost use Rattle.cp_resource.specs.Stepping.{looked, step, stepped};
 
+use crate::look;
 use cp_answers::Answer;
 use cp_base::{Invocation, Items, NoMemory};
-use cp_group_reads::look;
+use cp_grammar::ReadError;
+use cp_group_ranges::entries_keep_states_sound;
 use cp_group_tables::GroupTables;
 use cp_ops::{Entry, Op};
-use cp_spelling::ReadError;
-use cp_state_ranges::entries_keep_states_sound;
 use std::alloc::Global;
 
 /// Applies an entry that has a spelling. A sound state stays sound, and the answers have spellings.

@@ -1,10 +1,10 @@
 //! What waits for its time to be over.
 ghost use Rattle.std.specs.Prelude.{◌≡◌, ◌<◌, ◌≤◌, ◌-◌, ◌^◌, Some, length, map, slice_get};
 ghost use Rattle.std.specs.List.{filter};
-ghost use Rattle.cp_spelling.specs.Common.{index, invocation};
+ghost use Rattle.cp_grammar.specs.Common.{index, invocation};
 ghost use Rattle.cp_machine.specs.Machines.{TimerFits};
 ghost use Rattle.cp_wait.specs.Arrivals.{waits_limited};
-ghost use Rattle.cp_state_ranges.specs.States.{IsSound};
+ghost use Rattle.cp_group_ranges.specs.States.{IsSound};
 ghost use Rattle.cp_resource.specs.Timing.{limit, numbered, session_timer, timers_of, wait_timer};
 
 use cp_group_state::Waiter;

@@ -4,8 +4,8 @@ use Rattle.std.proofs.lemmas.Bool.{cases_eq, cases_Bool}
 use Rattle.std.proofs.lemmas.List.{append_assoc, append-nil}
 use Rattle.std.proofs.lemmas.List.Elements.{Contains-append_left, Contains-append_right, Contains-append_cases}
 use Rattle.std.proofs.lemmas.Option.{same_Some}
-use Rattle.cp_rules.specs.Clusters.{Step, Message, Snapshot, Cluster, cluster_after, put}
-use Rattle.cp_rules.specs.Facts.{MeetsFacts}
+use Rattle.cp_agreement_facts.specs.Clusters.{Step, Message, Snapshot, Cluster, cluster_after, put}
+use Rattle.cp_agreement_facts.specs.Facts.{MeetsFacts}
 use Rattle.cp_safety.specs.Tracking.{untracked, untracked_step, TrackedStep, TrackedFacts, MeetsTrackedFacts, restarted, tracked_after, untracked_steps}
 use Rattle.cp_safety.specs.Chunks.{SnapshotReader, Received, ChunkedMember, Wire, AsItIs, Chunk, ChunkedStep, chunked_restart, chunked_after, seen_got, seen_sent, seen_step, Joins, IsPiece, SameSnapshot, NewSnapshot, ChunkedFacts, MeetsChunkedFacts, HadSnapshot, MembersThrough}
 use Rattle.cp_agreement.proofs.Ghost.{put_same, put_other}

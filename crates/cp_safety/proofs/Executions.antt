@@ -2,9 +2,9 @@
 use Rattle.std.proofs.Common.{slice_get, inl, inr, ◌≡◌, ℕ, zero, suc, ◌≤◌, ⊎_elim, List, [], ◌∷◌, ◌++◌, map, refl, ap, sym, ◌∙◌, arith, subst, Contains}
 use Rattle.std.proofs.lemmas.List.Elements.{Contains-append_cases}
 use Rattle.cp_parts.specs.declared.log_entry.LogEntry.{LogEntry}
-use Rattle.cp_rules.specs.Logs.{HasTerm}
-use Rattle.cp_rules.specs.Clusters.{Append, Cluster, Member, Message, Snapshot, Step, Vote, after_step, cluster_after, put}
-use Rattle.cp_rules.specs.Facts.{KnowsTerm, MeetsFacts, before}
+use Rattle.cp_agreement_facts.specs.Logs.{HasTerm}
+use Rattle.cp_agreement_facts.specs.Clusters.{Append, Cluster, Member, Message, Snapshot, Step, Vote, after_step, cluster_after, put}
+use Rattle.cp_agreement_facts.specs.Facts.{KnowsTerm, MeetsFacts, before}
 use Rattle.cp_safety.specs.Standing.{StandsFor, StandsForLog, StandsThrough}
 use Rattle.cp_agreement.specs.WholeLogs as whole
 use Rattle.cp_agreement.proofs.Ghost.{Ghost, Invariant, Sound, ghost_of, put_other, put_same}

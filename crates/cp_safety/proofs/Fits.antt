@@ -3,10 +3,10 @@ use Rattle.std.proofs.Common.{◌≡◌, ◌≢◌, ℕ, zero, suc, ◌+◌, ◌
 use Rattle.std.proofs.lemmas.Bool.{cases_lt, cases_eq}
 use Rattle.std.proofs.lemmas.Option.{slice_get_within, same_Some}
 use Rattle.cp_parts.specs.declared.log_entry.LogEntry.{LogEntry}
-use Rattle.cp_rules.specs.Configurations.{configuration_after}
-use Rattle.cp_rules.specs.Logs.{EndsAt, HasTerm, HasTerms}
-use Rattle.cp_rules.specs.Clusters.{Member}
-use Rattle.cp_rules.specs.Facts.{KnowsTerm, LogEndsAt, configuration_of}
+use Rattle.cp_agreement_facts.specs.Configurations.{configuration_after}
+use Rattle.cp_agreement_facts.specs.Logs.{EndsAt, HasTerm, HasTerms}
+use Rattle.cp_agreement_facts.specs.Clusters.{Member}
+use Rattle.cp_agreement_facts.specs.Facts.{KnowsTerm, LogEndsAt, configuration_of}
 use Rattle.cp_safety.specs.Standing.{StandsForLog}
 use Rattle.cp_agreement.proofs.Logs.{Share, get-append_left, get-drop, get-take, has_place}
 use Rattle.cp_safety.proofs.Lists.{configuration_after-append, has_term_same}

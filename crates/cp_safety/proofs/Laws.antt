@@ -4,10 +4,10 @@ use Rattle.std.proofs.Math.Seq.{take-append_seam}
 use Rattle.std.proofs.lemmas.Bool.{cases_lt}
 use Rattle.std.proofs.lemmas.Option.{same_Some}
 use Rattle.cp_parts.specs.declared.log_entry.LogEntry.{LogEntry}
-use Rattle.cp_rules.specs.Configurations.{AreAdjacent, HasQuorum, configuration_after, configuration_at}
-use Rattle.cp_rules.specs.Logs.{HasTerm, IsPrefixOf}
-use Rattle.cp_rules.specs.Clusters.{Member, Cluster, Step, IsMoment, cluster_after, opening}
-use Rattle.cp_rules.specs.Facts.{KnowsTerm, MeetsFacts}
+use Rattle.cp_agreement_facts.specs.Configurations.{AreAdjacent, HasQuorum, configuration_after, configuration_at}
+use Rattle.cp_agreement_facts.specs.Logs.{HasTerm, IsPrefixOf}
+use Rattle.cp_agreement_facts.specs.Clusters.{Member, Cluster, Step, IsMoment, cluster_after, opening}
+use Rattle.cp_agreement_facts.specs.Facts.{KnowsTerm, MeetsFacts}
 use Rattle.cp_agreement.specs.WholeLogs as whole
 use Rattle.cp_agreement.proofs.Logs.{get-take, has_place}
 use Rattle.cp_agreement.proofs.Moments.{one_leader as whole_one_leader, equal_prefixes as whole_equal_prefixes, later_leaders as whole_later_leaders, one_history as whole_one_history, held_at_end as whole_held_at_end, held_by_first as whole_held_by_first}

@@ -2,9 +2,9 @@
 use Rattle.std.proofs.Common.{◌≡◌, ℕ, zero, suc, ◌+◌, ◌≤◌, List, [], ◌∷◌, ◌++◌, length, take, drop, map, refl, ap, sym, ◌∙◌, arith, Contains, suc-add, zero-add}
 use Rattle.std.proofs.lemmas.Option.{slice_get_within, same_Some}
 use Rattle.cp_parts.specs.declared.log_entry.LogEntry.{LogEntry}
-use Rattle.cp_rules.specs.Entries.{members_in}
-use Rattle.cp_rules.specs.Configurations.{configuration_after, members_or}
-use Rattle.cp_rules.specs.Logs.{HasTerm}
+use Rattle.cp_agreement_facts.specs.Entries.{members_in}
+use Rattle.cp_agreement_facts.specs.Configurations.{configuration_after, members_or}
+use Rattle.cp_agreement_facts.specs.Logs.{HasTerm}
 use Rattle.cp_agreement.proofs.Logs.{Share, share_at}
 
 pub drop-append_left : {X : Type 0} (m : ℕ) (a b : List X) → m ≤ length a → drop m (a ++ b) ≡ drop m a ++ b

@@ -2,9 +2,9 @@
 use Rattle.std.proofs.Common.{◌≡◌, ℕ, ◌≤◌, List, length, take, map, refl, ap₂, sym, ◌∙◌, subst, Some, None, Option, Contains}
 use Rattle.std.proofs.lemmas.Option.{same_Some}
 use Rattle.cp_parts.specs.declared.log_entry.LogEntry.{LogEntry}
-use Rattle.cp_rules.specs.Configurations.{configuration_after}
-use Rattle.cp_rules.specs.Logs.{HasTerm}
-use Rattle.cp_rules.specs.Clusters.{Append, Appended, Cluster, Done, Member, Message, Other, Snapshot, Vote, Voted}
+use Rattle.cp_agreement_facts.specs.Configurations.{configuration_after}
+use Rattle.cp_agreement_facts.specs.Logs.{HasTerm}
+use Rattle.cp_agreement_facts.specs.Clusters.{Append, Appended, Cluster, Done, Member, Message, Other, Snapshot, Vote, Voted}
 use Rattle.cp_agreement.specs.WholeLogs as whole
 use Rattle.cp_safety.proofs.Lists.{contains_unmap}
 

@@ -5,10 +5,10 @@ use Rattle.std.proofs.lemmas.Bool.{cases_lt, cases_eq}
 use Rattle.std.proofs.lemmas.Option.{slice_get_within}
 use Rattle.std.proofs.lemmas.List.Elements.{Contains-append_left, Contains-append_right, Contains-append_cases}
 use Rattle.cp_parts.specs.declared.log_entry.LogEntry.{LogEntry}
-use Rattle.cp_rules.specs.Configurations.{AreOneApart, configuration_after}
-use Rattle.cp_rules.specs.Logs.{HasTerm, HasTerms}
-use Rattle.cp_rules.specs.Clusters.{Member, Append, Appended, Cluster, Done, Message, Snapshot, Step, Vote, Voted, after_step, put}
-use Rattle.cp_rules.specs.Facts.{Acknowledges, ChangesAreSingle, EntriesCreated, Facts, Finishes, FollowerCommits, FollowsAbove, FollowsBelow, GotAppend, InstallsSnapshot, KeepsLog, LeaderCommits, SameBase, TakesSnapshot, WinsElection}
+use Rattle.cp_agreement_facts.specs.Configurations.{AreOneApart, configuration_after}
+use Rattle.cp_agreement_facts.specs.Logs.{HasTerm, HasTerms}
+use Rattle.cp_agreement_facts.specs.Clusters.{Member, Append, Appended, Cluster, Done, Message, Snapshot, Step, Vote, Voted, after_step, put}
+use Rattle.cp_agreement_facts.specs.Facts.{Acknowledges, ChangesAreSingle, EntriesCreated, Facts, Finishes, FollowerCommits, FollowsAbove, FollowsBelow, GotAppend, InstallsSnapshot, KeepsLog, LeaderCommits, SameBase, TakesSnapshot, WinsElection}
 use Rattle.cp_safety.specs.Standing.{StandsForLog}
 use Rattle.cp_agreement.specs.WholeLogs as whole
 use Rattle.cp_agreement.proofs.Logs.{Share, get-drop, get-take, has_place, reach, reach_at, share_at, share_length, share_less, share_refl, share_sym, share_take, share_trans}

@@ -6,8 +6,8 @@ use mathlib.Core.Path.{fun_ext}
 use Rattle.std.proofs.lemmas.Bool.{cases_eq}
 use Rattle.std.proofs.lemmas.Option.{same_Some}
 use Rattle.std.proofs.lemmas.List.Elements.{Contains-append_left, Contains-append_cases}
-use Rattle.cp_rules.specs.Clusters.{Append, Appended, Cluster, Done, Member, Message, Snapshot, Step, Vote, Voted, after_step, cluster_after, put}
-use Rattle.cp_rules.specs.Facts.{EntriesCreated, Facts, FollowsAbove, FollowsBelow, GotAppend, HasAcknowledged, InstallsSnapshot, KeepsLog, KnowsTerm, LeaderCommits, LogEndsAt, MeetsFacts, TakesSnapshot, WinsElection, before}
+use Rattle.cp_agreement_facts.specs.Clusters.{Append, Appended, Cluster, Done, Member, Message, Snapshot, Step, Vote, Voted, after_step, cluster_after, put}
+use Rattle.cp_agreement_facts.specs.Facts.{EntriesCreated, Facts, FollowsAbove, FollowsBelow, GotAppend, HasAcknowledged, InstallsSnapshot, KeepsLog, KnowsTerm, LeaderCommits, LogEndsAt, MeetsFacts, TakesSnapshot, WinsElection, before}
 use Rattle.cp_safety.specs.Tracking.{BecomesCandidate, Candidate, Counts, Follower, Leader, LeaderCommitsByMatch, MatchedUpto, MeetsTrackedFacts, PreCandidate, Rests, Role, SendsTruly, StaysCandidate, TrackedCluster, TrackedFacts, TrackedMember, TrackedStep, WinsAlone, WinsByVotes, cut_step, leads_by_role, restarted, tracked_after, tracked_after_step, tracked_opening, uncut_step, untracked, untracked_cluster, untracked_step, untracked_steps}
 use Rattle.cp_agreement.proofs.Logs.{get-drop}
 use Rattle.cp_agreement.proofs.Ghost.{put_other, put_same}

@@ -1,7 +1,7 @@
 -- Members that send a snapshot in chunks. A chunk stands for the whole snapshot, with the term and the configuration that its bytes
 -- begin with; what a member joins from chunks of one term and index is one snapshot.
 use Rattle.std.specs.Prelude.{◌≡◌, ℕ, ◌<◌, ◌⊎◌, Bool, true, List, [], ◌∷◌, ◌++◌, length, map, Option, Some, None, Contains, if◌then◌else◌}
-use Rattle.cp_rules.specs.Clusters.{Message, Snapshot, put, Step, cluster_after}
+use Rattle.cp_agreement_facts.specs.Clusters.{Message, Snapshot, put, Step, cluster_after}
 use Rattle.cp_safety.specs.Tracking.{TrackedMember, TrackedCluster, TrackedStep, TrackedFacts, restarted, tracked_opening, untracked}
 
 -- How a snapshot's bytes are read: the term of its index, and the configuration there.

@@ -1,9 +1,9 @@
 -- Executions in full: one that commits, and two that show what single facts are for.
 use Rattle.std.specs.Prelude.{◌≡◌, ℕ, ◌⊎◌, Bool, List, [], ◌∷◌, true, false, Some, None, Contains}
 use Rattle.cp_parts.specs.declared.log_entry.LogEntry.{LogEntry}
-use Rattle.cp_rules.specs.Configurations.{HasQuorum}
-use Rattle.cp_rules.specs.Clusters.{Member, Vote, Voted, Append, Appended, Cluster, Step, cluster_after}
-use Rattle.cp_rules.specs.Facts.{before, configuration_of, OtherFacts, LeadersElected, VotesGiven}
+use Rattle.cp_agreement_facts.specs.Configurations.{HasQuorum}
+use Rattle.cp_agreement_facts.specs.Clusters.{Member, Vote, Voted, Append, Appended, Cluster, Step, cluster_after}
+use Rattle.cp_agreement_facts.specs.Facts.{before, configuration_of, OtherFacts, LeadersElected, VotesGiven}
 
 -- a member that has taken no snapshot
 abbrev pub member_of : List ℕ → (term vote : ℕ) → List LogEntry → ℕ → Bool → Member

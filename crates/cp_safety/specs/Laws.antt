@@ -1,11 +1,11 @@
 -- The laws of agreement. They speak of any two states v and w that an execution had, in either order, and of any two members in them.
 use Rattle.std.specs.Prelude.{◌≡◌, ◌∷◌, ◌+◌, ◌-◌, ◌<◌, ◌≤◌, ◌⊎◌, true, ℕ, suc, Bool, List, length, take, drop, Some, None, slice_get}
 use Rattle.cp_parts.specs.declared.log_entry.LogEntry.{LogEntry}
-use Rattle.cp_rules.specs.Entries.{members_in}
-use Rattle.cp_rules.specs.Configurations.{configuration_at, HasQuorum, IsQuorum, AreAdjacent}
-use Rattle.cp_rules.specs.Logs.{HasTerm}
-use Rattle.cp_rules.specs.Clusters.{Member, Cluster, Step, IsMoment, cluster_after}
-use Rattle.cp_rules.specs.Facts.{KnowsTerm, MeetsFacts}
+use Rattle.cp_agreement_facts.specs.Entries.{members_in}
+use Rattle.cp_agreement_facts.specs.Configurations.{configuration_at, HasQuorum, IsQuorum, AreAdjacent}
+use Rattle.cp_agreement_facts.specs.Logs.{HasTerm}
+use Rattle.cp_agreement_facts.specs.Clusters.{Member, Cluster, Step, IsMoment, cluster_after}
+use Rattle.cp_agreement_facts.specs.Facts.{KnowsTerm, MeetsFacts}
 use Rattle.cp_agreement.specs.WholeLogs as whole
 use Rattle.cp_safety.specs.Standing.{StandsThrough}
 use Rattle.cp_safety.specs.Chunks.{SnapshotReader, ChunkedStep, MeetsChunkedFacts, chunked_after, Joins, HadSnapshot, MembersThrough}

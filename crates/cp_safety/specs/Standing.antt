@@ -1,9 +1,9 @@
 -- What a member with a snapshot stands for: a member that kept its whole log.
 use Rattle.std.specs.Prelude.{◌≡◌, ℕ, ◌≤◌, List, [], ◌∷◌, length, drop}
 use Rattle.cp_parts.specs.declared.log_entry.LogEntry.{LogEntry}
-use Rattle.cp_rules.specs.Configurations.{configuration_at}
-use Rattle.cp_rules.specs.Logs.{HasTerm}
-use Rattle.cp_rules.specs.Clusters.{Member, Step, cluster_after}
+use Rattle.cp_agreement_facts.specs.Configurations.{configuration_at}
+use Rattle.cp_agreement_facts.specs.Logs.{HasTerm}
+use Rattle.cp_agreement_facts.specs.Clusters.{Member, Step, cluster_after}
 use Rattle.cp_agreement.specs.WholeLogs as whole
 
 -- The whole log that a member stands for: what the member keeps of it is what follows the base, with the base stand the term and the

@@ -2,9 +2,9 @@
 -- state before and after a step, as rules for one member do: none speaks of what was ever sent, but that what comes was sent.
 use Rattle.std.specs.Prelude.{All, ◌≡◌, ◌≢◌, ℕ, ◌<◌, ◌≤◌, ◌⊎◌, Bool, true, false, List, [], ◌∷◌, ◌++◌, Option, Some, Contains, if◌then◌else◌}
 use Rattle.cp_parts.specs.declared.log_entry.LogEntry.{LogEntry}
-use Rattle.cp_rules.specs.Configurations.{HasQuorum}
-use Rattle.cp_rules.specs.Clusters.{Member, Message, Vote, Voted, Append, Appended, Snapshot, Done, Other, Cluster, Step, put}
-use Rattle.cp_rules.specs.Facts.{KnowsTerm, configuration_of, KeepsLog, EntriesCreated, FollowsAbove, FollowsBelow, TakesSnapshot, InstallsSnapshot, GivesVote, SendsAppend, SendsSnapshot, SendsVote, Acknowledges, Finishes, FollowerCommits}
+use Rattle.cp_agreement_facts.specs.Configurations.{HasQuorum}
+use Rattle.cp_agreement_facts.specs.Clusters.{Member, Message, Vote, Voted, Append, Appended, Snapshot, Done, Other, Cluster, Step, put}
+use Rattle.cp_agreement_facts.specs.Facts.{KnowsTerm, configuration_of, KeepsLog, EntriesCreated, FollowsAbove, FollowsBelow, TakesSnapshot, InstallsSnapshot, GivesVote, SendsAppend, SendsSnapshot, SendsVote, Acknowledges, Finishes, FollowerCommits}
 
 pub data Role : Type 0 where
   Follower : Role

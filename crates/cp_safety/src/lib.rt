@@ -1,10 +1,10 @@
-//! Agreement of one group of members on a log, over every execution that meets the facts of `cp_rules`: members fixed or changing
+//! Agreement of one group of members on a log, over every execution that meets the facts of `cp_agreement_facts`: members fixed or changing
 //! one at a time, with snapshots, crashes and restarts. No code: the functions below state laws.
 #![tactic(auto)]
 
 ghost use Rattle.std.specs.Prelude.{◌≡◌, true};
-ghost use Rattle.cp_rules.specs.Clusters.{cluster_after};
-ghost use Rattle.cp_rules.specs.Facts.{MeetsFacts};
+ghost use Rattle.cp_agreement_facts.specs.Clusters.{cluster_after};
+ghost use Rattle.cp_agreement_facts.specs.Facts.{MeetsFacts};
 ghost use Rattle.cp_safety.specs.Examples.{three, alone, elects_and_commits, votes_twice, stands_late, MeetsAllButVotes, MeetsWithAnyLog};
 ghost use Rattle.cp_safety.specs.Laws.{OneOffice, EqualPrefixes, LaterOffices, CommittedPrefixes, WholeLogs, NeighboursMeet, HeldAtEnd, HeldByFirstMembers, TrackedExecutions, ChunkedExecutions, ChunksJoin};
 

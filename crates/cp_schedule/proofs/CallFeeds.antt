@@ -3,7 +3,7 @@ use Rattle.std.proofs.Common.{◌≡◌, ℕ, ◌+◌, Bool}
 use Rattle.std.specs.Prelude.{Option, Some, None, codes}
 use Rattle.cp_grammar.specs.Grammar.{Grammar, FitsOf, spelled_of, variant}
 use Rattle.cp_grammar.specs.Words.{Token}
-use Rattle.cp_value_words.specs.Values.{signed_word, hex_word, reference_word, name_word, group_word, member_word}
+use Rattle.cp_call_words.specs.Values.{signed_word, hex_word, reference_word, name_word, group_word, member_word}
 use Rattle.cp_call_words.specs.declared.context.Context.{Context}
 use Rattle.cp_call_words.specs.Objects.{object_word}
 use Rattle.cp_call_words.specs.ObjectCalls.{long_calls, ref_calls, lock_calls, sem_calls, latch_calls, map_calls, asked_word, asked, on_object}

@@ -4,7 +4,7 @@ use Rattle.std.specs.Prelude.{Option, Some, None, codes}
 use Rattle.std.proofs.lemmas.List.{take_at, take-append-drop}
 use Rattle.std.proofs.lemmas.Grind.{flat_map-append}
 use Rattle.std.specs.Fmt.{decimal}
-use Rattle.cp_words.specs.Text.{line}
+use Rattle.cp_base.specs.Text.{line}
 use Rattle.cp_grammar.specs.Grammar.{Grammar, checked}
 use Rattle.cp_grammar.specs.Words.{number_word}
 use Rattle.cp_grammar.specs.Lists.{until_spelling, UntilFits}
@@ -12,7 +12,7 @@ use Rattle.cp_events.specs.declared.plan.Plan.{Plan}
 use Rattle.cp_events.specs.declared.plan.HoldLimit.{HoldLimit}
 use Rattle.cp_events.specs.declared.schedule.Line.{Line}
 use Rattle.cp_events.specs.declared.schedule.Schedule.{Schedule}
-use Rattle.cp_value_words.specs.Values.{name_word, between_word}
+use Rattle.cp_call_words.specs.Values.{name_word, between_word}
 use Rattle.cp_call_words.specs.declared.context.Context.{Context}
 use Rattle.cp_schedule.specs.Fronts.{optional, spelling_if_there, FitsIfThere}
 use Rattle.cp_schedule.specs.Header.{opening, size_line, clients_line, snapshot_line, groups_words, which_groups, may_have, groups_line, may_follow, one_limit, limit_line, limit_lines, reads_words, which_reads, reads_line, header_behind, header}
@@ -66,9 +66,9 @@ event_feeds context = record { counts = (words_feeds context).counts }
 
 -- ---- the header
 
-cp_words : feeds (line (codes "cp 1")) ≡ 1
+cp_base : feeds (line (codes "cp 1")) ≡ 1
 unfolding feeds
-cp_words = refl
+cp_base = refl
 
 members_words : feeds (codes "members ") ≡ 0
 unfolding feeds
@@ -151,7 +151,7 @@ opening_feeds : (n : ℕ) → opening.Fits n → feeds (opening.spelling n) ≡ 
 unfolding opening
 opening_feeds n fits =
     let number = (number_word 10 9).spelling n in
-    omega (arith, feeds_append (line (codes "cp 1")) (codes "members " ++ number), feeds_append (codes "members ") number, cp_words, members_words, nine.counts n fits)
+    omega (arith, feeds_append (line (codes "cp 1")) (codes "members " ++ number), feeds_append (codes "members ") number, cp_base, members_words, nine.counts n fits)
 
 size_feeds : (members : ℕ) → Counts (size_line members) 1
 unfolding size_line

@@ -11,7 +11,7 @@ use Rattle.cp_events.specs.declared.event.Event.{Event}
 use Rattle.cp_events.specs.declared.event.Event.TheVariants as event
 use Rattle.cp_events.specs.declared.schedule.Line.{Line}
 use Rattle.cp_events.specs.declared.schedule.Line.TheVariants as line
-use Rattle.cp_value_words.specs.Values.{between_word, member_word, milliseconds}
+use Rattle.cp_call_words.specs.Values.{between_word, member_word, milliseconds}
 use Rattle.cp_call_words.specs.declared.context.Context.{Context}
 use Rattle.cp_call_words.specs.Calls.{user_op}
 use Rattle.cp_schedule.specs.Fronts.{after, ended_number}

@@ -1,15 +1,16 @@
 //! Reads the lines behind the header.
 ghost use Rattle.std.specs.Prelude.{◌≡◌, ◌≤◌, IfOk};
 ghost use Rattle.cp_grammar.specs.Lists.{until};
-ghost use Rattle.cp_spelling.specs.Readers.{Reads, Gives};
+ghost use Rattle.cp_grammar.specs.Readers.{Reads, Gives};
 ghost use Rattle.cp_schedule.specs.Events.{client_word, thread_word, stop_words, crash_cases, crashing, crash_words, crash_of, line_words, event_line, any_line, event_lines};
 
 use crate::fronts::{behind, take_ended_number};
 use cp_base::{ClientNo, Items, MemberNo, ThreadNo};
-use cp_call_words::{Context, take_user_op};
+use cp_call_words::{
+    Context, take_between_word, take_member_word, take_milliseconds, take_user_op,
+};
 use cp_events::{Event, Line};
-use cp_spelling::{LINE, SPACE, Stop, is_token, take_number_word, take_token};
-use cp_value_words::{take_between_word, take_member_word, take_milliseconds};
+use cp_grammar::{LINE, SPACE, Stop, is_token, take_number_word, take_token};
 use std::alloc::Global;
 
 const MOST_MEMBERS: u64 = 9;

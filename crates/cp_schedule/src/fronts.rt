@@ -1,10 +1,10 @@
 //! Readers of the words that lines are made of.
 ghost use Rattle.std.specs.Prelude.{◌≡◌, ◌≤◌, IfOk};
 ghost use Rattle.std.specs.Option.{option_map};
-ghost use Rattle.cp_spelling.specs.Readers.{Reads, Gives};
+ghost use Rattle.cp_grammar.specs.Readers.{Reads, Gives};
 ghost use Rattle.cp_schedule.specs.Fronts.{behind, ended_number_reading};
 
-use cp_spelling::{Stop, read_own_decimal, take_token};
+use cp_grammar::{Stop, read_own_decimal, take_token};
 
 /// What stands behind a front of a text, where the text begins with it.
 #[tactic(auto, unfolding(crate::specs::Fronts::behind))]

@@ -1,14 +1,14 @@
 //! Reads the header, line by line.
 ghost use Rattle.std.specs.Prelude.{◌≡◌, ◌≤◌, IfOk};
 ghost use Rattle.cp_grammar.specs.Lists.{until};
-ghost use Rattle.cp_spelling.specs.Readers.{Reads, Gives};
+ghost use Rattle.cp_grammar.specs.Readers.{Reads, Gives};
 ghost use Rattle.cp_schedule.specs.Header.{opening, size_line, clients_line, snapshot_line, groups_words, which_groups, groups_line, is_limited, may_follow, limit_line, limit_lines, reads_words, which_reads, reads_line, header_behind, header, is_size};
 
 use crate::fronts::behind;
 use cp_base::{Items, Name};
+use cp_call_words::{take_between_word, take_name_word};
 use cp_events::{Groups, HoldLimit, Plan};
-use cp_spelling::{LINE, SPACE, Stop, is_token, take_number_word, take_token};
-use cp_value_words::{take_between_word, take_name_word};
+use cp_grammar::{LINE, SPACE, Stop, is_token, take_number_word, take_token};
 use std::alloc::Global;
 
 const MOST_MEMBERS: u64 = 9;
@@ -184,21 +184,21 @@ fn take_limits(alloc: Global, bytes: &[u8]) -> Result<(Items<HoldLimit>, &[u8]),
 }
 
 #[tactic(auto, unfolding(crate::specs::Header::reads_words))]
-fn take_reads_words(bytes: &[u8]) -> Result<(cp_events::Reads, &[u8]), Stop>
+fn take_reads_words(bytes: &[u8]) -> Result<(cp_events::ReadsBy, &[u8]), Stop>
     ensures { Reads result (reads_words.reading bytes.now) }
 {
     let (word, end, rest) = take_token(bytes)?;
     if is_token(word, end, b"entry", LINE) {
-        return Ok((cp_events::Reads::Entry, rest));
+        return Ok((cp_events::ReadsBy::Entry, rest));
     }
     if is_token(word, end, b"round", LINE) {
-        return Ok((cp_events::Reads::Round, rest));
+        return Ok((cp_events::ReadsBy::Round, rest));
     }
     Err(Stop::Left(rest.len()))
 }
 
 #[tactic(auto, unfolding(crate::specs::Header::which_reads))]
-fn take_which_reads(bytes: &[u8]) -> Result<(cp_events::Reads, &[u8]), Stop>
+fn take_which_reads(bytes: &[u8]) -> Result<(cp_events::ReadsBy, &[u8]), Stop>
     ensures { Reads result (which_reads.reading bytes.now) }
 {
     match take_reads_words(bytes) {
@@ -209,7 +209,7 @@ fn take_which_reads(bytes: &[u8]) -> Result<(cp_events::Reads, &[u8]), Stop>
 }
 
 #[tactic(auto, unfolding(crate::specs::Header::reads_line))]
-fn take_reads(bytes: &[u8]) -> Result<(Option<cp_events::Reads>, &[u8]), Stop>
+fn take_reads(bytes: &[u8]) -> Result<(Option<cp_events::ReadsBy>, &[u8]), Stop>
     ensures { Reads result (reads_line.reading bytes.now) }
 {
     let Some(word) = behind(b"reads ", bytes) else {

@@ -1,8 +1,9 @@
 //! Reads a schedule, or finds the first line that is none.
-ghost use Rattle.std.specs.Prelude.{◌≡◌, ◌≤◌, ◌<◌, ◌^◌, ◌==◌, length, count_by, Ok, IfOk};
+ghost use Rattle.cp_base.specs.declared.limits.TheConstants.{LAST_NUMBER};
+ghost use Rattle.std.specs.Prelude.{◌≡◌, ◌≤◌, ◌<◌, ◌==◌, length, count_by, Ok, IfOk};
 ghost use Rattle.cp_grammar.specs.Grammar.{whole};
 ghost use Rattle.cp_grammar.specs.Words.{line_of};
-ghost use Rattle.cp_spelling.specs.Readers.{Reads, Tells};
+ghost use Rattle.cp_grammar.specs.Readers.{Reads, Tells};
 ghost use Rattle.cp_events.specs.declared.schedule.Schedule.{Schedule as Written};
 ghost use Rattle.cp_schedule.specs.Header.{opening};
 ghost use Rattle.cp_schedule.specs.Schedules.{schedule, context_of, is_managed};
@@ -12,7 +13,7 @@ use crate::event::take_event_lines;
 use crate::header::{take_header, take_opening};
 use cp_call_words::Context;
 use cp_events::{Groups, Plan, Schedule};
-use cp_spelling::{LINE, ReadError, Stop};
+use cp_grammar::{LINE, ReadError, Stop};
 use std::alloc::Global;
 use thiserror::Error;
 
@@ -147,7 +148,7 @@ fn header_lines(plan: &Plan) -> u64
 /// The line of the n-th line behind the header, where n counts from 0, and lines from 1.
 pub fn line_of_event(plan: &Plan, n: u64) -> u64
     requires limits { length plan.now.limits ≤ 16 }
-    requires place { n < 2 ^ 62 }
+    requires place { n < LAST_NUMBER }
     ensures { result ≡ line_of_event plan.now n }
 {
     header_lines(plan) + n + 1

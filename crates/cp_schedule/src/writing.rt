@@ -1,6 +1,6 @@
 //! Writes the lines of events as a transcript shows them.
 ghost use Rattle.std.specs.Prelude.{◌≡◌, ◌++◌, OnOk};
-ghost use Rattle.cp_words.specs.Text.{Grew};
+ghost use Rattle.cp_base.specs.Text.{Grew};
 ghost use Rattle.cp_call_words.specs.Calls.{call_text};
 ghost use Rattle.cp_call_words.specs.Shown.{shown};
 ghost use Rattle.cp_schedule.specs.Shown.{shown_event_line};
@@ -23,7 +23,7 @@ fn append_call(op: &UserOp, scratch: &mut Vec<u8>, out: &mut Vec<u8>) -> Result<
 
 /// Appends the line of an event as a transcript shows it behind the event's number, with its line feed; where memory
 /// runs out, a front of it may stand in `out`. What stood in `scratch` is lost.
-#[tactic(auto, unfolding(crate::specs::Events::event_line, crate::specs::Events::line_words, cp_value_words::specs::Values::member_word, crate::specs::Events::client_word, crate::specs::Events::thread_word, crate::specs::Events::crash_words, crate::specs::Events::stop_words))]
+#[tactic(auto, unfolding(crate::specs::Events::event_line, crate::specs::Events::line_words, cp_call_words::specs::Values::member_word, crate::specs::Events::client_word, crate::specs::Events::thread_word, crate::specs::Events::crash_words, crate::specs::Events::stop_words))]
 pub fn append_event_line(
     event: &Event,
     scratch: &mut Vec<u8>,

@@ -1,7 +1,6 @@
 pub mod Extensional
 pub mod Flattening
 pub mod ObjectOrder
-pub mod Available
 pub mod Within
 pub mod Soundness
 pub mod Taking
@@ -10,3 +9,5 @@ pub mod Backing
 pub mod Rooms
 pub mod Closings
 pub mod Destroyed
+pub mod Named
+pub mod ConcernedTogether

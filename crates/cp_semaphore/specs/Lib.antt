@@ -4,3 +4,4 @@ pub mod Outcomes
 pub mod Fitting
 pub mod Serving
 pub mod Backs
+pub mod Concerns

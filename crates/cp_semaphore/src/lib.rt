@@ -3,15 +3,17 @@
 
 mod amounts;
 mod closing;
+mod held;
 mod holdings;
-mod outcome;
+mod keys;
+mod left;
+mod names;
 mod rows;
 mod semaphores;
 mod serving;
 mod steps;
 mod tables;
-#[cfg(test)]
-mod tests;
 
-pub use outcome::SemOutcome;
+pub use cp_group_state::SemOutcome;
+pub use keys::{concerned, left_by};
 pub use semaphores::{Semaphores, set_holding};

@@ -5,7 +5,7 @@ ghost use Rattle.cp_group_state.specs.Rows.{find, put, without, has_room, most, 
 use cp_base::{Name, NoMemory};
 use cp_group_state::SemaphoreRow;
 use cp_ops::Kind;
-use cp_table::{put_row, write_row};
+use cp_rows::{put_row, write_row};
 use std::collections::BTreeMap;
 
 /// The row of a semaphore, if it is there.

@@ -27,5 +27,5 @@ pub fn beat_row(rows: &mut BTreeMap<u64, SessionRow>, session: u64, row: Session
     ensures rows { rows.new.entries ≡ put nat_cmp rows.old.entries session row }
     ensures sets { Sets nat_cmp session (Some row) rows.old.entries rows.new.entries }
 {
-    cp_table::write_row(rows, &session, row);
+    cp_rows::write_row(rows, &session, row);
 }

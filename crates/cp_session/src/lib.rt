@@ -11,9 +11,8 @@ mod index;
 mod open;
 mod restore;
 mod sessions;
-#[cfg(test)]
-mod tests;
 
+pub use cp_group_state::SessionRow;
 pub use error::SessionError;
 pub use sessions::Sessions;
 

@@ -2,11 +2,11 @@
 use Rattle.std.proofs.Common.{◌≡◌, ◌≤◌, ◌==◌, ◌&&◌, ℕ, zero, suc, ⊎_elim, Bool, true, false, List, ◌++◌, length, take, refl, ap, sym, ◌∙◌, Option, Some, None, option_map, nat_lt, if◌then◌else◌}
 use Rattle.std.proofs.lemmas.Bool.{cases_Bool}
 use Rattle.std.proofs.lemmas.List.{take_all}
-use Rattle.cp_raft_message.specs.declared.snapshot.Chunk.{Chunk}
-use Rattle.cp_step.specs.Limits.{most_snapshot}
-use Rattle.cp_step.specs.Volatile.{Received}
-use Rattle.cp_step.specs.Snapshots as step
-use Rattle.cp_step.specs.Snapshots.{received_of, joined, progress_of}
+use Rattle.cp_message.specs.declared.snapshot.Chunk.{Chunk}
+use Rattle.cp_rules.specs.Limits.{most_snapshot}
+use Rattle.cp_rules.specs.Volatile.{Received}
+use Rattle.cp_rules.specs.Snapshots as step
+use Rattle.cp_rules.specs.Snapshots.{received_of, joined, progress_of}
 use Rattle.cp_snapshot.specs.declared.assembler.Progress.TheVariants.{More, Whole, TooLong}
 use Rattle.cp_snapshot.specs.declared.assembler.Source.{Source}
 use Rattle.cp_snapshot.specs.declared.joining.Join.TheVariants.{Apart, Anew, On}

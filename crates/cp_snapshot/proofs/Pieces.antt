@@ -5,12 +5,12 @@ use Rattle.std.proofs.lemmas.Bool.{cases_Bool, eq-eqb, eqb-true, le-leb, le-ltb,
 use Rattle.std.proofs.lemmas.List.{length-drop, length-take, length-take-le, take_all, take-append-drop}
 use Rattle.std.proofs.lemmas.List.Elements.{All-head, All-tail}
 use Rattle.std.proofs.lemmas.Option.{same_Some}
-use Rattle.cp_raft_message.specs.declared.snapshot.Chunk.{Chunk}
-use Rattle.cp_step.specs.Limits.{chunk_bytes, most_snapshot}
-use Rattle.cp_step.specs.Volatile.{Received, peer, with_peer}
-use Rattle.cp_step.specs.Local.{does, reply}
-use Rattle.cp_step.specs.Sending.{chunk, is_last_chunk, chunk_from}
-use Rattle.cp_step.specs.Snapshots.{Progress, Apart, TooLong, More, Whole, received_of, joined, progress_of}
+use Rattle.cp_message.specs.declared.snapshot.Chunk.{Chunk}
+use Rattle.cp_rules.specs.Limits.{chunk_bytes, most_snapshot}
+use Rattle.cp_rules.specs.Volatile.{Received, peer, with_peer}
+use Rattle.cp_rules.specs.Local.{does, reply}
+use Rattle.cp_rules.specs.Sending.{chunk, is_last_chunk, chunk_from}
+use Rattle.cp_rules.specs.Snapshots.{Progress, Apart, TooLong, More, Whole, received_of, joined, progress_of}
 use Rattle.cp_election.proofs.Rules.{of_if}
 use Rattle.cp_snapshot.specs.Decisions.{joined_to, progress_at, received_with, received_after}
 use Rattle.cp_snapshot.specs.Laws.{piece, after_pieces, ChunksMakeTheSnapshot, IsPiece, after_chunks, WholesAreSnapshots, after_reply, RepliesGoAsDecided}

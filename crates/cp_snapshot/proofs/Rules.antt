@@ -1,11 +1,11 @@
 -- The rules do what is decided.
 use Rattle.std.proofs.Common.{◌≡◌, ◌&&◌, not, ℕ, ⊎_elim, Bool, true, false, length, refl, ap, sym, ◌∙◌, Option, Some, None, is_none, is_some, nat_lt, nat_le, if◌then◌else◌}
 use Rattle.std.proofs.lemmas.Bool.{cases_Bool, le-leb, lt-leb, ltb-true, ltb-false}
-use Rattle.cp_step.specs.Limits.{most_snapshot}
-use Rattle.cp_step.specs.Appends.{following}
-use Rattle.cp_step.specs.Local.{does, reply, SnapshotReply}
-use Rattle.cp_step.specs.Spelling.{snapshot_bytes}
-use Rattle.cp_step.specs.Snapshots.{progress, received_of, answers, takes_chunk, own_head}
+use Rattle.cp_rules.specs.Limits.{most_snapshot}
+use Rattle.cp_rules.specs.Appends.{following}
+use Rattle.cp_rules.specs.Local.{does, reply, SnapshotReply}
+use Rattle.cp_rules.specs.Spelling.{snapshot_bytes}
+use Rattle.cp_rules.specs.Snapshots.{progress, received_of, answers, takes_chunk, own_head}
 use Rattle.cp_election.proofs.Rules.{of_if}
 use Rattle.cp_snapshot.specs.declared.answering.Taken.TheVariants.{Refused, Known, Joined}
 use Rattle.cp_snapshot.specs.Laws.{after_chunk, with_own, ChunksGoAsDecided, OwnSnapshotsGoAsDecided}

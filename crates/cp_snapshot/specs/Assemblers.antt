@@ -1,6 +1,6 @@
 -- What an assembler holds.
 use Rattle.std.specs.Prelude.{◌≡◌, ℕ, List, take, drop, Option, option_map, vec_len}
-use Rattle.cp_step.specs.Volatile.{Received}
+use Rattle.cp_rules.specs.Volatile.{Received}
 use Rattle.cp_snapshot.specs.declared.assembler.Assembler.{Assembler}
 use Rattle.cp_snapshot.specs.declared.assembler.Source.{Source}
 

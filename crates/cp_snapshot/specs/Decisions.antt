@@ -1,11 +1,11 @@
 -- What is decided of chunks.
 use Rattle.std.specs.Prelude.{ℕ, zero, suc, ◌==◌, not, ◌&&◌, Bool, if◌then◌else◌, List, length, Option, Some, None, nat_lt, nat_le}
-use Rattle.cp_raft_message.specs.declared.snapshot.Chunk.{Chunk}
-use Rattle.cp_step.specs.declared.peer.Peer.{Peer}
-use Rattle.cp_step.specs.Limits.{most_snapshot}
-use Rattle.cp_step.specs.Volatile.{Received}
-use Rattle.cp_step.specs.Snapshots as step
-use Rattle.cp_step.specs.Snapshots.{received_of, progress}
+use Rattle.cp_message.specs.declared.snapshot.Chunk.{Chunk}
+use Rattle.cp_rules.specs.declared.peer.Peer.{Peer}
+use Rattle.cp_rules.specs.Limits.{most_snapshot}
+use Rattle.cp_rules.specs.Volatile.{Received}
+use Rattle.cp_rules.specs.Snapshots as step
+use Rattle.cp_rules.specs.Snapshots.{received_of, progress}
 use Rattle.cp_snapshot.specs.declared.answering.Taken.{Taken}
 use Rattle.cp_snapshot.specs.declared.answering.Taken.TheVariants.{Refused, Known, Joined}
 use Rattle.cp_snapshot.specs.declared.assembler.Progress.{Progress}

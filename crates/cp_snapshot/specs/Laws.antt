@@ -1,16 +1,16 @@
 -- What is made of chunks.
 use Rattle.std.specs.Prelude.{◌≡◌, ◌<◌, ◌≤◌, ℕ, zero, suc, ◌*◌, Bool, true, false, List, [], ◌∷◌, length, map, Option, Some, None, is_some, All}
-use Rattle.cp_raft_message.specs.declared.snapshot.Chunk.{Chunk}
-use Rattle.cp_step.specs.declared.peer.Peer.{Peer}
-use Rattle.cp_step.specs.Limits.{chunk_bytes, most_snapshot}
-use Rattle.cp_store_state.specs.Persistent.{PersistentState}
-use Rattle.cp_step.specs.Persistent.{SnapshotPart, ballot}
-use Rattle.cp_step.specs.Volatile.{Received, VolatileState, peer, with_peer}
-use Rattle.cp_step.specs.Local.{LocalStep, does, reply, SnapshotReply}
-use Rattle.cp_step.specs.Spelling.{snapshot_bytes}
-use Rattle.cp_step.specs.Appends.{following}
-use Rattle.cp_step.specs.Sending.{chunk, is_last_chunk, chunk_from}
-use Rattle.cp_step.specs.Snapshots.{Progress, Whole, progress, received_of, answers, takes_chunk, on_snapshot, sends_more, own_head, own_snapshot, from_start}
+use Rattle.cp_message.specs.declared.snapshot.Chunk.{Chunk}
+use Rattle.cp_rules.specs.declared.peer.Peer.{Peer}
+use Rattle.cp_rules.specs.Limits.{chunk_bytes, most_snapshot}
+use Rattle.cp_log_rules.specs.Persistent.{PersistentState}
+use Rattle.cp_rules.specs.Persistent.{SnapshotPart, ballot}
+use Rattle.cp_rules.specs.Volatile.{Received, VolatileState, peer, with_peer}
+use Rattle.cp_rules.specs.Local.{LocalStep, does, reply, SnapshotReply}
+use Rattle.cp_rules.specs.Spelling.{snapshot_bytes}
+use Rattle.cp_rules.specs.Appends.{following}
+use Rattle.cp_rules.specs.Sending.{chunk, is_last_chunk, chunk_from}
+use Rattle.cp_rules.specs.Snapshots.{Progress, Whole, progress, received_of, answers, takes_chunk, on_snapshot, sends_more, own_head, own_snapshot, from_start}
 use Rattle.cp_snapshot.specs.declared.answering.Taken.{Taken}
 use Rattle.cp_snapshot.specs.declared.answering.Taken.TheVariants.{Refused, Known, Joined}
 use Rattle.cp_snapshot.specs.Decisions.{progress_at, received_after, goes_on, take_chunk, writes_own}

@@ -1,11 +1,11 @@
 //! What a leader sends of its snapshot.
 ghost use Rattle.std.specs.Prelude.{◌≡◌, ◌≤◌, length, take, drop, nat_le};
-ghost use Rattle.cp_step.specs.Limits.{chunk_bytes, most_snapshot};
-ghost use Rattle.cp_step.specs.Sending.{chunk, is_last_chunk};
-ghost use Rattle.cp_step.specs.Snapshots.{from_start};
+ghost use Rattle.cp_rules.specs.Limits.{chunk_bytes, most_snapshot};
+ghost use Rattle.cp_rules.specs.Sending.{chunk, is_last_chunk};
+ghost use Rattle.cp_rules.specs.Snapshots.{from_start};
 ghost use Rattle.cp_snapshot.specs.Decisions.{goes_on};
 
-use cp_step::Peer;
+use cp_rules::Peer;
 
 /// The most bytes of a chunk.
 const CHUNK_BYTES: usize = 32_768;

@@ -1,5 +1,5 @@
 //! Snapshots in chunks: what a follower joins of them, and what a leader sends next. Each decision is that of the rule in
-//! `cp_step`, and laws say what is made of chunks.
+//! `cp_rules`, and laws say what is made of chunks.
 #![tactic(auto)]
 
 ghost use Rattle.cp_snapshot.specs.Laws.{ChunksMakeTheSnapshot, WholesAreSnapshots, ChunksGoAsDecided, RepliesGoAsDecided, OwnSnapshotsGoAsDecided};
@@ -8,8 +8,6 @@ mod answering;
 mod assembler;
 mod chunks;
 mod joining;
-#[cfg(test)]
-mod tests;
 
 pub use answering::{Taken, take_chunk, writes_own};
 pub use assembler::{Assembler, Progress};

@@ -4,13 +4,13 @@ use Rattle.std.specs.Prelude.{IfOk}
 use Rattle.std.specs.Borrow.{Bor}
 use Rattle.std.specs.List.{AllByRecursion}
 use Rattle.cp_codec.specs.Exact.{IsByte}
-use Rattle.cp_spelling.specs.declared.stop.Stop.{Stop}
-use Rattle.cp_spelling.specs.declared.stop.ReadError.{ReadError}
-use Rattle.cp_spelling.specs.Readers.{Gives}
+use Rattle.cp_grammar.specs.declared.stop.Stop.{Stop}
+use Rattle.cp_grammar.specs.declared.stop.ReadError.{ReadError}
+use Rattle.cp_grammar.specs.Readers.{Gives}
 use Rattle.cp_group_state.specs.GroupState.{GroupState}
-use Rattle.cp_state_ranges.specs.States.{IsSound}
-use Rattle.cp_state_rows.specs.declared.version.Version.{Version}
-use Rattle.cp_state_rows.proofs.Listed.{session_list_facts, semaphore_list_facts, waiter_list_facts}
+use Rattle.cp_group_ranges.specs.States.{IsSound}
+use Rattle.cp_state_bytes.specs.declared.version.Version.{Version}
+use Rattle.cp_state_bytes.proofs.Listed.{session_list_facts, semaphore_list_facts, waiter_list_facts}
 use Rattle.cp_state_bytes.specs.declared.group_rows.GroupRows.{GroupRows}
 use Rattle.cp_state_bytes.specs.GroupRows.{state_of, Restores}
 use Rattle.cp_state_bytes.specs.States.{owners, objects, calls, lists_in, restored, HasCounts}

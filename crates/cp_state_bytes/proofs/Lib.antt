@@ -3,3 +3,10 @@ pub mod Consistent
 pub mod Sound
 pub mod Checks
 pub mod Known
+pub mod Behind
+pub mod Facts
+pub mod Resorted
+pub mod Listed
+pub mod ListLaws
+pub mod Counting
+pub mod Spellings

@@ -3,13 +3,13 @@ use Rattle.std.proofs.Common.{refl}
 use Rattle.cp_codec.specs.Exact.{IsByte}
 use Rattle.cp_grammar.specs.Lawful.{IsLawful}
 use Rattle.cp_grammar.specs.Grammar.{◌then◌}
-use Rattle.cp_grammar.proofs.Laws.{mapped_lawful, settled_lawful, seq_lawful, then_lawful}
-use Rattle.cp_grammar.proofs.FieldLaws.{lawful}
-use Rattle.cp_spelling.specs.CommonLaws.{group_lawful}
-use Rattle.cp_state_rows.specs.declared.version.Version.{Version}
-use Rattle.cp_state_rows.specs.Versions.{version_grammar}
-use Rattle.cp_state_rows.specs.RowLaws.{version_lawful}
-use Rattle.cp_state_rows.proofs.ListLaws.{session_list_lawful, lock_list_lawful, semaphore_list_lawful, holding_list_lawful, latch_list_lawful, long_list_lawful, ref_list_lawful, gone_list_lawful, waiter_list_lawful, memory_list_lawful, pair_list_lawful}
+use Rattle.cp_grammar.specs.Laws.{mapped_lawful, settled_lawful, seq_lawful, then_lawful}
+use Rattle.cp_grammar.specs.FieldLaws.{lawful}
+use Rattle.cp_grammar.specs.CommonLaws.{group_lawful}
+use Rattle.cp_state_bytes.specs.declared.version.Version.{Version}
+use Rattle.cp_state_bytes.specs.Versions.{version_grammar}
+use Rattle.cp_state_bytes.specs.RowLaws.{version_lawful}
+use Rattle.cp_state_bytes.proofs.ListLaws.{session_list_lawful, lock_list_lawful, semaphore_list_lawful, holding_list_lawful, latch_list_lawful, long_list_lawful, ref_list_lawful, gone_list_lawful, waiter_list_lawful, memory_list_lawful, pair_list_lawful}
 use Rattle.cp_state_bytes.specs.Rules.{is_consistent}
 use Rattle.cp_state_bytes.specs.States.{owners, objects, calls, state_of_parts, parts_of_state, lists_in, state_in, any_version}
 

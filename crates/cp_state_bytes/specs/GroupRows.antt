@@ -1,7 +1,7 @@
 -- The rows of a group's state are a state.
 use Rattle.std.specs.Prelude.{◌≡◌, ℕ, Result, Ok, Err}
-use Rattle.cp_spelling.specs.declared.stop.ReadError.{ReadError}
-use Rattle.cp_spelling.specs.Readers.{Fails}
+use Rattle.cp_grammar.specs.declared.stop.ReadError.{ReadError}
+use Rattle.cp_grammar.specs.Readers.{Fails}
 use Rattle.cp_group_state.specs.GroupState.{GroupState}
 use Rattle.cp_state_bytes.specs.declared.group_rows.GroupRows.{GroupRows}
 

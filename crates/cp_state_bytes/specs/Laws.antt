@@ -3,7 +3,7 @@ use Rattle.std.specs.Prelude.{◌≡◌, ℕ, List, Ok}
 use Rattle.cp_group_state.specs.GroupState.{GroupState}
 use Rattle.std.specs.List.{AllByRecursion}
 use Rattle.cp_codec.specs.Exact.{IsByte}
-use Rattle.cp_state_ranges.specs.States.{IsSound}
+use Rattle.cp_group_ranges.specs.States.{IsSound}
 use Rattle.cp_state_bytes.specs.States.{HasCounts, spelled, restored}
 
 -- a sound state is restored from its bytes

@@ -4,3 +4,11 @@ pub mod Laws
 pub mod Sums
 pub mod GroupRows
 pub mod Parts
+pub mod Versions
+pub mod Keys
+pub mod Rows
+pub mod RowLaws
+pub mod Lists
+pub mod Spelled
+pub mod Lent
+pub mod Whole

@@ -11,7 +11,7 @@ use Rattle.cp_group_state.specs.Waiters.{same_client, stands}
 use Rattle.cp_group_state.specs.Semaphores.{Semaphores}
 use Rattle.cp_group_state.specs.Invariants.{held_of}
 use Rattle.cp_group_state.specs.GroupState.{GroupState}
-use Rattle.cp_state_ranges.specs.Rows.{is_semaphore}
+use Rattle.cp_group_ranges.specs.Rows.{is_semaphore}
 use Rattle.cp_lock.specs.Tables.{are_whole}
 
 -- no two sessions have one client

@@ -2,7 +2,7 @@
 use Rattle.std.specs.Prelude.{◌<◌, ◌^◌, ℕ, ℤ, List, length, Option, Result, Ok, Err}
 use Rattle.cp_base.specs.declared.identifier.GroupId.{GroupId}
 use Rattle.cp_grammar.specs.Grammar.{Grammar, mapped, settled, seq, ◌then◌, whole}
-use Rattle.cp_spelling.specs.Common.{group_id}
+use Rattle.cp_grammar.specs.Common.{group_id}
 use Rattle.cp_group_state.specs.declared.rows.SessionRow.{SessionRow}
 use Rattle.cp_group_state.specs.declared.rows.LockRow.{LockRow}
 use Rattle.cp_group_state.specs.declared.rows.SemaphoreRow.{SemaphoreRow}
@@ -11,10 +11,10 @@ use Rattle.cp_group_state.specs.declared.rows.Waiter.{Waiter}
 use Rattle.cp_group_state.specs.declared.rows.MemoryRow.{MemoryRow}
 use Rattle.cp_group_state.specs.Rows.{Named, Object}
 use Rattle.cp_group_state.specs.GroupState.{GroupState}
-use Rattle.cp_state_rows.specs.declared.version.Version.{Version}
-use Rattle.cp_state_rows.specs.declared.version.Version.TheVariants as versions
-use Rattle.cp_state_rows.specs.Versions.{version_grammar}
-use Rattle.cp_state_rows.specs.Lists.{Holdings, session_list, lock_list, semaphore_list, holding_list, latch_list, long_list, ref_list, gone_list, waiter_list, memory_list, pair_list}
+use Rattle.cp_state_bytes.specs.declared.version.Version.{Version}
+use Rattle.cp_state_bytes.specs.declared.version.Version.TheVariants as versions
+use Rattle.cp_state_bytes.specs.Versions.{version_grammar}
+use Rattle.cp_state_bytes.specs.Lists.{Holdings, session_list, lock_list, semaphore_list, holding_list, latch_list, long_list, ref_list, gone_list, waiter_list, memory_list, pair_list}
 use Rattle.cp_state_bytes.specs.Rules.{is_consistent}
 
 -- the number of the destroyed group, sessions, locks, semaphores, and what is held of them

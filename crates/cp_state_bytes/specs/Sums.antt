@@ -7,8 +7,8 @@ use Rattle.cp_group_state.specs.Rows.{Object, find, most, name_cmp, object_cmp}
 use Rattle.cp_group_state.specs.Semaphores.{is_held}
 use Rattle.cp_group_state.specs.Invariants.{IsRising, held_by_all}
 use Rattle.cp_group_state.specs.GroupState.{GroupState}
-use Rattle.cp_state_ranges.specs.Rows.{SemaphoreFits}
-use Rattle.cp_state_rows.specs.Lists.{Holdings}
+use Rattle.cp_group_ranges.specs.Rows.{SemaphoreFits}
+use Rattle.cp_state_bytes.specs.Lists.{Holdings}
 
 -- what is known of lists by their fields alone, as far as the rules that bind them ask for it
 pub record AreListed (s : GroupState) : Type 0 where

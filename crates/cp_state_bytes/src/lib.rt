@@ -4,13 +4,34 @@
 ghost use Rattle.cp_state_bytes.specs.Laws.{StatesComeBack, RestoredStatesAreSound};
 
 mod group_rows;
+mod holdings;
+mod keys;
+mod latches;
+mod lent;
+mod lists;
+mod parts;
 mod reading;
+mod row;
+mod rows;
 mod rules;
-#[cfg(test)]
-mod tests;
+mod version;
+mod writing;
+mod written_holdings;
+mod written_row;
+mod written_rows;
 
 pub use group_rows::GroupRows;
+pub use holdings::take_holdings;
+pub use latches::take_latches;
+pub use lent::LentState;
+pub use lists::{
+    MOST_ROWS, take_gone, take_locks, take_longs, take_memory, take_pairs, take_refs,
+    take_semaphores, take_sessions, take_waiters,
+};
 pub use reading::read;
+pub use row::{Row, take_rows};
+pub use version::Version;
+pub use writing::write;
 
 /// A sound state is restored from its bytes.
 pub fn states_come_back()

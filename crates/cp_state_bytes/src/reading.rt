@@ -1,8 +1,8 @@
 //! A group's state out of its bytes.
 ghost use Rattle.std.specs.Prelude.{◌≡◌, IfOk};
-ghost use Rattle.cp_spelling.specs.Readers.{Gives};
+ghost use Rattle.cp_grammar.specs.Readers.{Gives};
 ghost use Rattle.cp_grammar.specs.Grammar.{whole};
-ghost use Rattle.cp_state_ranges.specs.States.{IsSound};
+ghost use Rattle.cp_group_ranges.specs.States.{IsSound};
 ghost use Rattle.cp_state_bytes.specs.GroupRows.{state_of, Restores};
 ghost use Rattle.cp_state_bytes.specs.Parts.{owners_of, objects_of, calls_of};
 ghost use Rattle.cp_state_bytes.specs.States.{owners, objects, calls, state_of_parts, lists_in, state_in, any_version, restored, HasCounts};
@@ -10,15 +10,15 @@ ghost use Rattle.cp_state_bytes.specs.Sums.{AreListed};
 
 use crate::group_rows::GroupRows;
 use crate::rules::is_consistent;
-use cp_base::{GroupId, Items, Name};
-use cp_group_state::{LatchRow, LockRow, MemoryRow, SemaphoreRow, SessionRow, Waiter};
-use cp_map::Key;
-use cp_op_values::Kind;
-use cp_spelling::{ReadError, Spelled, Stop};
-use cp_state_rows::{
+use crate::{
     Version, take_gone, take_holdings, take_latches, take_locks, take_longs, take_memory,
     take_pairs, take_refs, take_semaphores, take_sessions, take_waiters,
 };
+use cp_base::{GroupId, Items, Name};
+use cp_grammar::{ReadError, Spelled, Stop};
+use cp_group_state::{LatchRow, LockRow, MemoryRow, SemaphoreRow, SessionRow, Waiter};
+use cp_map::Key;
+use cp_op_values::Kind;
 use std::alloc::Global;
 
 /// The first part: who there is, and what they own.

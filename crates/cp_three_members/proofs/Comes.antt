@@ -5,12 +5,12 @@ use Rattle.std.specs.Option.{option_map, ForSome}
 use Rattle.cp_grammar.specs.Grammar.{whole}
 use Rattle.cp_grammar.specs.Fields.{mark_reading}
 use Rattle.cp_parts.specs.Configs.{config_in, members_entry}
-use Rattle.cp_rules.specs.Entries.{members_in}
-use Rattle.cp_store_state.specs.Persistent.{PersistentState}
-use Rattle.cp_step.specs.Local.{Body, Event, Got}
-use Rattle.cp_step.specs.Volatile.{VolatileState}
-use Rattle.cp_step_ranges.specs.Laws.{MayStep, MayGoOn}
-use Rattle.cp_step_ranges.specs.Ranges.{IsMember}
+use Rattle.cp_agreement_facts.specs.Entries.{members_in}
+use Rattle.cp_log_rules.specs.Persistent.{PersistentState}
+use Rattle.cp_rules.specs.Local.{Body, Event, Got}
+use Rattle.cp_rules.specs.Volatile.{VolatileState}
+use Rattle.cp_rules_ranges.specs.Laws.{MayStep, MayGoOn}
+use Rattle.cp_rules_ranges.specs.Ranges.{IsMember}
 use Rattle.cp_raft.specs.Taking.{NamesMember}
 use Rattle.cp_three_members.specs.Coming.{MayCome, IsSaid}
 

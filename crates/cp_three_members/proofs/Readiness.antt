@@ -7,7 +7,7 @@ use Rattle.cp_disk.specs.declared.disk.Disk.{Ghosts}
 use Rattle.cp_grammar.specs.Lists.{ItemsFit}
 use Rattle.cp_log.specs.declared.store.Store.{Store}
 use Rattle.cp_raft.specs.declared.raft.Raft.{Raft}
-use Rattle.cp_spelling.specs.Common.{members, member_after}
+use Rattle.cp_grammar.specs.Common.{members, member_after}
 use Rattle.cp_three_members.specs.Members.{IsReady}
 
 rising_prop : (before xs : List ℕ) → IsProp (ItemsFit member_after before xs)

@@ -1,14 +1,14 @@
 -- A member of three that starts for the first time may take a step.
 use Rattle.std.proofs.Common.{◌≡◌, ℕ, List, [], ◌∷◌, false, refl, sym, subst, arith}
 use Rattle.cp_grammar.specs.Lists.{ItemsFit}
-use Rattle.cp_spelling.specs.Common.{members, member_after}
-use Rattle.cp_store_state.specs.Recovery.{recovered_from}
-use Rattle.cp_store_state.specs.Durable.{DurableState, first_members, first_state, group_in}
+use Rattle.cp_grammar.specs.Common.{members, member_after}
+use Rattle.cp_log_rules.specs.Recovery.{recovered_from}
+use Rattle.cp_log_rules.specs.Durable.{DurableState, first_members, first_state, group_in}
 use Rattle.cp_log.specs.Files.{IfOkState, file_state, started}
-use Rattle.cp_step.specs.Volatile.{VolatileState}
-use Rattle.cp_step.specs.Volatile as volatile
-use Rattle.cp_step_ranges.specs.Ranges.{IsMember}
-use Rattle.cp_step_ranges.proofs.Steps.{steps_go_on}
+use Rattle.cp_rules.specs.Volatile.{VolatileState}
+use Rattle.cp_rules.specs.Volatile as volatile
+use Rattle.cp_rules_ranges.specs.Ranges.{IsMember}
+use Rattle.cp_rules_ranges.proofs.Steps.{steps_go_on}
 use Rattle.cp_raft_state.specs.declared.seat.Seat.{Seat}
 use Rattle.cp_raft.specs.Rafts.{MayGoOn}
 

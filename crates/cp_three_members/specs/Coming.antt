@@ -1,10 +1,10 @@
 -- What may come to a member, whatever it keeps.
 use Rattle.std.specs.Prelude.{Option, Some, None}
-use Rattle.cp_store_state.specs.Persistent.{PersistentState}
-use Rattle.cp_step.specs.Local.{Body, Event}
-use Rattle.cp_step.specs.Volatile.{VolatileState}
-use Rattle.cp_step_facts.specs.Soundness.{IsFair}
-use Rattle.cp_step_ranges.specs.Ranges.{BodyIsInRange, EventIsInRange}
+use Rattle.cp_log_rules.specs.Persistent.{PersistentState}
+use Rattle.cp_rules.specs.Local.{Body, Event}
+use Rattle.cp_rules.specs.Volatile.{VolatileState}
+use Rattle.cp_rules_facts.specs.Soundness.{IsFair}
+use Rattle.cp_rules_ranges.specs.Ranges.{BodyIsInRange, EventIsInRange}
 use Rattle.cp_raft.specs.Taking.{NamesMember}
 
 pub record MayCome (event : Event) : Type 0 where

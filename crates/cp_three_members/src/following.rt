@@ -4,8 +4,7 @@ use crate::group::Group;
 use crate::lines::Lines;
 use crate::running::deliver;
 use cp_base::{GroupId, Items};
-use cp_message::{Body, Message};
-use cp_raft_message::{Append, Chunk, LogEntry};
+use cp_message::{Append, Body, Chunk, LogEntry, Message};
 use std::alloc::Global;
 
 /// The head of a snapshot of term 1 with the first configuration, whose members are 1 to 3.

@@ -3,9 +3,9 @@ ghost use Rattle.std.specs.Prelude.{true, false, [], ◌≡◌, ◌≤◌, IfSom
 ghost use Rattle.std.specs.Option.{ForSome};
 ghost use Rattle.cp_log.specs.Files.{started};
 ghost use Rattle.cp_log.specs.Stores.{held_by, is_spent};
-ghost use Rattle.cp_store_state.specs.Durable.{first_state};
-ghost use Rattle.cp_step.specs.Limits.{most_index};
-ghost use Rattle.cp_step_ranges.specs.Ranges.{IsMember};
+ghost use Rattle.cp_log_rules.specs.Durable.{first_state};
+ghost use Rattle.cp_rules.specs.Limits.{most_index};
+ghost use Rattle.cp_rules_ranges.specs.Ranges.{IsMember};
 ghost use Rattle.cp_raft.specs.Events.{event_of};
 ghost use Rattle.cp_three_members.specs.Coming.{MayCome};
 ghost use Rattle.cp_three_members.specs.Members.{IsReady, bytes_of};
@@ -15,8 +15,7 @@ use cp_base::{GroupId, Items, MemberNo};
 use cp_disk::MemoryDisk;
 use cp_log::Store;
 use cp_message::Message;
-use cp_raft::{Raft, RaftEvent, RaftOut};
-use cp_step::Change;
+use cp_raft::{Change, Raft, RaftEvent, RaftOut};
 use std::alloc::Global;
 
 /// A member over its store. One that is down takes no step any more.

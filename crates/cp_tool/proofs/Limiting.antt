@@ -6,7 +6,7 @@ use Rattle.cp_events.specs.declared.event.Event.{Event}
 use Rattle.cp_events.specs.declared.plan.Plan.{Plan}
 use Rattle.cp_events.specs.declared.schedule.Line.{Line}
 use Rattle.cp_events.specs.declared.schedule.Line.TheVariants as line
-use Rattle.cp_run.specs.Execution.{events_of}
+use Rattle.cp_world_rules.specs.Execution.{events_of}
 use borrow.Author.Count.{below_more}
 use Rattle.cp_schedule.specs.Reading.{line_of_event}
 use Rattle.cp_tool.specs.Limits.{beyond, IsLimit, KeepsLimits, passed, text_of}

@@ -3,14 +3,14 @@ use Rattle.std.proofs.Common.{◌≡◌, ◌≤◌, ℕ, List, ◌++◌, [], Opt
 use Rattle.std.specs.Prelude.{IfSome, ◌∷◌}
 use Rattle.std.specs.Io.KnownBytes.{Appends, Consumes, IsAtEnd}
 use Rattle.std.proofs.lemmas.List.{take_all}
-use Rattle.cp_words.specs.Faults.{AppendsFront}
+use Rattle.cp_base.specs.Faults.{AppendsFront}
 use Rattle.cp_io.specs.Causes.{GaveAll}
 use Rattle.cp_events.specs.declared.plan.Plan.{Plan}
 use Rattle.cp_events.specs.declared.schedule.Line.{Line}
 use Rattle.cp_events.specs.declared.schedule.Schedule.{Schedule}
 use Rattle.cp_schedule.specs.Reading.{IsRead}
-use Rattle.cp_run.specs.Execution.{Settled, events_of}
-use Rattle.cp_run.proofs.Kept.{headline-kept, prompt-kept}
+use Rattle.cp_world_rules.specs.Execution.{Settled, events_of}
+use Rattle.cp_world_rules.proofs.Kept.{headline-kept, prompt-kept}
 use Rattle.cp_tool.specs.Limits.{IsLimit, KeepsLimits, text_of}
 use Rattle.cp_tool.specs.Running.{IsWhole}
 use Rattle.cp_tool.specs.Runs.{Limits, Replays, ReplaysFront}

@@ -1,11 +1,12 @@
 -- How far a run may go.
+use Rattle.cp_base.specs.declared.limits.TheConstants.{MOST_TEXT}
 use Rattle.std.specs.Prelude.{◌≡◌, ◌≤◌, ◌+◌, ℕ, List, length, take, slice_get, Option, Some, None, if◌then◌else◌, nat_lt}
 use Rattle.cp_events.specs.declared.event.Event.{Event}
 use Rattle.cp_events.specs.declared.plan.Plan.{Plan}
 use Rattle.cp_events.specs.declared.schedule.Line.{Line}
 use Rattle.cp_events.specs.declared.schedule.Line.TheVariants as line
-use Rattle.cp_run.specs.Execution.{events_of, executed}
-use Rattle.cp_run.specs.World.{new_world, world_after}
+use Rattle.cp_world_rules.specs.Execution.{events_of, executed}
+use Rattle.cp_world_rules.specs.World.{new_world, world_after}
 use Rattle.cp_schedule.specs.Reading.{line_of_event}
 use Rattle.cp_transcript.specs.Transcripts.{transcript_of}
 use Rattle.cp_tool.specs.declared.status.LimitName.{LimitName}
@@ -15,7 +16,7 @@ use Rattle.cp_tool.specs.declared.status.LimitName.TheVariants as limit
 abbrev pub beyond : ℕ → ℕ → Option LimitName
 beyond events bytes =
     if nat_lt 100000 events then Some limit.Events
-    else if nat_lt 268435456 bytes then Some limit.Transcript
+    else if nat_lt MOST_TEXT bytes then Some limit.Transcript
     else None
 
 -- the transcript of a schedule with these events

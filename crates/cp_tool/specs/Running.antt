@@ -3,8 +3,8 @@ use Rattle.std.specs.Prelude.{◌≡◌, ℕ, List, ◌++◌, length, Some, None
 use Rattle.cp_events.specs.declared.event.Event.{Event}
 use Rattle.cp_events.specs.declared.plan.Plan.{Plan}
 use Rattle.cp_events.specs.declared.schedule.Line.{Line}
-use Rattle.cp_run.specs.Execution.{events_of}
-use Rattle.cp_run.specs.World.{new_world, world_after}
+use Rattle.cp_world_rules.specs.Execution.{events_of}
+use Rattle.cp_world_rules.specs.World.{new_world, world_after}
 use Rattle.cp_transcript.specs.Telling.{Tells}
 use Rattle.cp_world.specs.Following as world
 use Rattle.cp_tool.specs.Limits.{IsLimit, KeepsLimits, passed, text_of}

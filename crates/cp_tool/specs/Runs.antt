@@ -1,11 +1,11 @@
 -- The promises of `run`.
 use Rattle.std.specs.Prelude.{◌≡◌, ℕ, List, [], ◌∷◌, codes, length, Option}
 use Rattle.std.specs.Io.KnownBytes.{Appends}
-use Rattle.cp_words.specs.Faults.{AppendsFront}
+use Rattle.cp_base.specs.Faults.{AppendsFront}
 use Rattle.cp_events.specs.declared.schedule.Schedule.{Schedule}
 use Rattle.cp_schedule.specs.Reading.{IsRead}
-use Rattle.cp_run.specs.Execution.{IsAllowed, Outcomes, execution_of}
-use Rattle.cp_run.specs.Headline.{Headline, IsPrompt}
+use Rattle.cp_world_rules.specs.Execution.{IsAllowed, Outcomes, execution_of}
+use Rattle.cp_world_rules.specs.Headline.{Headline, IsPrompt}
 use Rattle.cp_transcript.specs.Transcripts.{transcript_of}
 use Rattle.cp_tool.specs.Limits.{IsLimit, KeepsLimits}
 use Rattle.cp_tool.specs.declared.status.LimitName.{LimitName}

@@ -2,7 +2,7 @@
 use Rattle.std.specs.Prelude.{ℕ, List, [], ◌∷◌, ◌++◌, Option, Some, None, codes}
 use Rattle.std.specs.List.{flat_map}
 use Rattle.std.specs.Fmt.{decimal}
-use Rattle.cp_words.specs.Text.{line}
+use Rattle.cp_base.specs.Text.{line}
 use Rattle.cp_base.specs.declared.identifier.ClientNo.{ClientNo}
 use Rattle.cp_answers.specs.Answers.{answer_text}
 use Rattle.cp_answers.specs.Refusals.{refusal_text}

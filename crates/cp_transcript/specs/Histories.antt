@@ -1,10 +1,10 @@
 -- What a transcript prints of the history of a group.
 use Rattle.std.specs.Prelude.{ℕ, ◌+◌, List, [], ◌∷◌, ◌++◌, codes}
 use Rattle.std.specs.Fmt.{decimal}
-use Rattle.cp_words.specs.Text.{line}
+use Rattle.cp_base.specs.Text.{line}
 use Rattle.cp_base.specs.declared.identifier.GroupId.{GroupId}
 use Rattle.cp_ops.specs.Entries.{entry_text}
-use Rattle.cp_run.specs.Rows.{Committed}
+use Rattle.cp_world_rules.specs.Rows.{Committed}
 
 -- `INDEX EVENT ENTRY`
 abbrev pub committed_line : ℕ → Committed → List ℕ

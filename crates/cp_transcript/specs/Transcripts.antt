@@ -1,10 +1,10 @@
 -- What is printed of an execution.
 use Rattle.std.specs.Prelude.{ℕ, List, ◌++◌, codes}
 use Rattle.std.specs.List.{flat_map}
-use Rattle.cp_words.specs.Text.{line}
+use Rattle.cp_base.specs.Text.{line}
 use Rattle.cp_events.specs.declared.effects.Effects.{Effects}
-use Rattle.cp_run.specs.Execution.{Execution, histories_of}
-use Rattle.cp_run.specs.Rows.{Committed}
+use Rattle.cp_world_rules.specs.Execution.{Execution, histories_of}
+use Rattle.cp_world_rules.specs.Rows.{Committed}
 use Rattle.cp_transcript.specs.Effects.{effects_lines}
 use Rattle.cp_transcript.specs.Histories.{history_lines}
 

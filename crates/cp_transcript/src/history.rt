@@ -1,6 +1,6 @@
 //! The lines of a history.
 ghost use Rattle.std.specs.Prelude.{◌≡◌, ◌++◌, OnErr, OnOk};
-ghost use Rattle.cp_words.specs.Text.{Grew};
+ghost use Rattle.cp_base.specs.Text.{Grew};
 ghost use Rattle.cp_transcript.specs.Histories.{committed_line};
 
 use cp_base::{NoMemory, Text, write_decimal};

@@ -6,8 +6,7 @@ mod index;
 mod indexes;
 mod rows;
 mod shelf;
-#[cfg(test)]
-mod tests;
 mod waits;
 
+pub use cp_group_state::Waiter;
 pub use waits::{RowsError, WaitError, Waits};

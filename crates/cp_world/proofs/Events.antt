@@ -13,10 +13,10 @@ use Rattle.cp_events.specs.declared.plan.Plan.{Plan}
 use Rattle.cp_group_state.specs.Apply.{apply}
 use Rattle.cp_group_state.specs.GroupState.{GroupState}
 use Rattle.cp_client_rules.specs.Clients.{Asked, Did}
-use Rattle.cp_run.specs.Bounds.{AllWithin}
-use Rattle.cp_run.proofs.Bounds.{after, begins, hands_on}
-use Rattle.cp_run.proofs.Settled.{settled}
-use Rattle.cp_run.specs.World as rules
+use Rattle.cp_world_rules.specs.Bounds.{AllWithin}
+use Rattle.cp_world_rules.proofs.Bounds.{after, begins, hands_on}
+use Rattle.cp_world_rules.proofs.Settled.{settled}
+use Rattle.cp_world_rules.specs.World as rules
 use Rattle.cp_world.specs.declared.turn.Turn.{Turn}
 use Rattle.cp_world.specs.declared.world.World.{World}
 use Rattle.cp_world.specs.Following.{Follows, Goes, IsStep, Leads, LeadsFrom}

@@ -9,7 +9,7 @@ use Rattle.cp_ops.specs.declared.entry.Entry.TheVariants as entry
 use Rattle.cp_client_rules.specs.Clients.{Asked, Did}
 use Rattle.cp_base.specs.Identifiers.{replay_id}
 use Rattle.cp_client_rules.specs.Answers.{answer_client}
-use Rattle.cp_run.specs.World.{World, client_at, client_of, commit, commit_all, does, hand_all, hand_on, handed, note, world_after, world_step}
+use Rattle.cp_world_rules.specs.World.{World, client_at, client_of, commit, commit_all, does, hand_all, hand_on, handed, note, world_after, world_step}
 
 pub commit_grows : (a : Asked) (w : World) → length (commit a w).history ≡ length w.history + 1
 commit_grows a w = length-append w.history (record { event = w.shown.number; entry = entry.Call a.call a.op } ∷ [])

@@ -6,9 +6,9 @@ use Rattle.cp_answers.specs.declared.answer.Answer.{Answer}
 use Rattle.cp_events.specs.declared.plan.Plan.{Plan}
 use Rattle.cp_ops.specs.declared.entry.Entry.{Entry}
 use Rattle.cp_client_rules.specs.Clients.{Asked}
-use Rattle.cp_run.specs.Rows.{Committed}
-use Rattle.cp_run.proofs.Bounds.{hands_on}
-use Rattle.cp_run.specs.World as rules
+use Rattle.cp_world_rules.specs.Rows.{Committed}
+use Rattle.cp_world_rules.proofs.Bounds.{hands_on}
+use Rattle.cp_world_rules.specs.World as rules
 use Rattle.cp_world.specs.declared.turn.Turn.{Turn}
 use Rattle.cp_world.specs.declared.world.World.{World}
 use Rattle.cp_world.specs.Following.{Leads, committed_at}

@@ -20,8 +20,8 @@ use Rattle.cp_client_rules.specs.declared.rows.Pending.{Pending}
 use Rattle.cp_client_rules.specs.Clients.{Asked, Client, Did, thread_at}
 use Rattle.cp_client.specs.declared.output.ClientOut.{ClientOut}
 use Rattle.cp_client.specs.Threads.{open_number}
-use Rattle.cp_run.specs.World as rules
-use Rattle.cp_run.proofs.Runs.{runs-printed}
+use Rattle.cp_world_rules.specs.World as rules
+use Rattle.cp_world_rules.proofs.Runs.{runs-printed}
 use Rattle.cp_world.specs.declared.turn.Turn.{Turn}
 use Rattle.cp_world.specs.declared.world.World.{World}
 use Rattle.cp_world.specs.Following.{Goes, Leads, LeadsFrom}

@@ -17,9 +17,9 @@ use Rattle.cp_client_rules.specs.Clients.{Client, Did, LockKey, lock_cmp, new_cl
 use Rattle.cp_client.specs.declared.output.ClientOut.{ClientOut}
 use Rattle.cp_client.specs.Rooms.{HasRoom}
 use Rattle.cp_client.specs.Steps.{Gives}
-use Rattle.cp_table.proofs.Ordered.{put_there}
-use Rattle.cp_run.specs.Bounds.{IsEarned, IsWithin}
-use Rattle.cp_run.specs.World as rules
+use Rattle.cp_rows.proofs.Ordered.{put_there}
+use Rattle.cp_world_rules.specs.Bounds.{IsEarned, IsWithin}
+use Rattle.cp_world_rules.specs.World as rules
 use Rattle.cp_world.specs.declared.turn.Turn.{Turn}
 use Rattle.cp_world.specs.declared.world.World.{World}
 use Rattle.cp_world.specs.Following.{Goes, GoesFrom, Leads, LeadsFrom}

@@ -8,8 +8,8 @@ use Rattle.cp_events.specs.declared.event.Event.{Event}
 use Rattle.cp_events.specs.declared.plan.Plan.{Plan}
 use Rattle.cp_group_state.specs.Rows.{put}
 use Rattle.cp_client_rules.specs.Clients.{Did}
-use Rattle.cp_run.specs.Rows.{Committed}
-use Rattle.cp_run.specs.World as rules
+use Rattle.cp_world_rules.specs.Rows.{Committed}
+use Rattle.cp_world_rules.specs.World as rules
 use Rattle.cp_world.specs.declared.turn.Turn.{Turn}
 use Rattle.cp_world.specs.declared.world.World.{World}
 

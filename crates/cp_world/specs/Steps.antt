@@ -8,7 +8,7 @@ use Rattle.cp_events.specs.declared.plan.Plan.{Plan}
 use Rattle.cp_events.specs.declared.user_op.UserOp.{UserOp}
 use Rattle.cp_client_rules.specs.Answers.{answer_client}
 use Rattle.cp_client_rules.specs.Clients.{thread_at}
-use Rattle.cp_run.specs.World.{World, calls_if_idle, client_at, does}
+use Rattle.cp_world_rules.specs.World.{World, calls_if_idle, client_at, does}
 
 -- a thread makes one call at a time
 abbrev pub calls : Plan → ClientNo → ThreadNo → UserOp → World → World

@@ -1,5 +1,5 @@
 use Rattle.std.proofs.Common.{◌≡◌, ◌++◌, length}
-use Rattle.cp_step.specs.Changes.{without_member}
+use Rattle.cp_rules.specs.Changes.{without_member}
 use Rattle.cp_change.proofs.making.without_member.Given as goal
 
 abbrev pub invariant-loop-rest : goal.invariant-loop-rest

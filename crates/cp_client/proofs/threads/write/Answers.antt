@@ -1,7 +1,7 @@
 use Rattle.std.proofs.Common.{◌∙◌, sym}
 use Rattle.std.specs.Ordering.{nat_cmp}
 use Rattle.std.proofs.lemmas.Cmp.{nat_cmp_total}
-use Rattle.cp_table.proofs.Ordered.{put_there}
+use Rattle.cp_rows.proofs.Ordered.{put_there}
 use Rattle.cp_client.proofs.threads.write.Goals as goal
 
 pub returns-in-Some : goal.returns-in-Some

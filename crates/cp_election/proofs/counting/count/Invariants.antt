@@ -1,5 +1,5 @@
 use Rattle.std.proofs.Common.{◌≡◌, ◌==◌, ◌||◌, ◌+◌, ◌≤◌, length, count_by}
-use Rattle.cp_step.specs.Volatile.{has_voted}
+use Rattle.cp_rules.specs.Volatile.{has_voted}
 use Rattle.cp_election.proofs.counting.count.Given as goal
 
 abbrev pub invariant-loop-rest : goal.invariant-loop-rest

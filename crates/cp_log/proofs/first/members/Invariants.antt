@@ -1,5 +1,5 @@
 use Rattle.std.proofs.Common.{◌≡◌}
-use Rattle.cp_store_state.specs.Durable.{first_members}
+use Rattle.cp_log_rules.specs.Durable.{first_members}
 use Rattle.cp_log.proofs.first.members.Given as goal
 
 abbrev pub invariant-loop-number : goal.invariant-loop-number

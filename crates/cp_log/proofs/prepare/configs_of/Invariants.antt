@@ -1,5 +1,5 @@
 use Rattle.std.proofs.Common.{◌≡◌, ◌≤◌, ◌+◌, ◌^◌, ◌++◌, length}
-use Rattle.cp_store_state.specs.Configurations.{configs_in}
+use Rattle.cp_log_rules.specs.Configurations.{configs_in}
 use Rattle.cp_log.proofs.prepare.configs_of.Given as goal
 
 abbrev pub invariant-loop-rest : goal.invariant-loop-rest

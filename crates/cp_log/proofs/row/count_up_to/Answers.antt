@@ -1,6 +1,6 @@
 use Rattle.std.proofs.Common.{leb, arith, rules}
 use Rattle.std.proofs.lemmas.List.Sorted.{IsPartitionPoint-from_clause, IsPartitionedBy-leb}
-use Rattle.cp_store_state.proofs.InForce.{count_found}
+use Rattle.cp_log_rules.proofs.InForce.{count_found}
 use Rattle.cp_log.proofs.row.count_up_to.Goals as goal
 
 pub returns : goal.returns

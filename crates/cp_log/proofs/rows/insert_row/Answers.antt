@@ -3,7 +3,7 @@ use Rattle.std.specs.Ordering.{nat_cmp}
 use Rattle.std.specs.BTreeMap.{insert_entry, is_at}
 use Rattle.std.specs.Map.{keys_of, remove_entry}
 use Rattle.std.specs.Set.{remove_key}
-use Rattle.cp_store_state.specs.Persistent.{new_group}
+use Rattle.cp_log_rules.specs.Persistent.{new_group}
 use Rattle.cp_log.specs.Rows.{rows_of}
 use Rattle.cp_log.proofs.RowMaps.{entry_back, insert_rows, keys_rows, remove_keys}
 use Rattle.cp_log.proofs.rows.insert_row.Goals as goal

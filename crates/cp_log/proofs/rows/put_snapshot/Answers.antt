@@ -1,5 +1,5 @@
 use Rattle.std.proofs.Common.{sym, Some}
-use Rattle.cp_store_state.specs.Persistent.{with_head}
+use Rattle.cp_log_rules.specs.Persistent.{with_head}
 use Rattle.cp_log.proofs.RowMaps.{row_changed}
 use Rattle.cp_log.proofs.rows.put_snapshot.Goals as goal
 

@@ -1,5 +1,5 @@
 use Rattle.std.proofs.Common.{◌≡◌, ◌++◌, length}
-use Rattle.cp_words.specs.Text.{Grew}
+use Rattle.cp_base.specs.Text.{Grew}
 use Rattle.cp_op_values.specs.Values.{members_text}
 use Rattle.cp_op_values.proofs.values.append_members_text.Given as goal
 

@@ -1,5 +1,5 @@
 use Rattle.std.proofs.Common.{◌≡◌, ◌++◌, length, ℕ}
-use Rattle.cp_words.specs.Text.{Grew}
+use Rattle.cp_base.specs.Text.{Grew}
 use Rattle.cp_ops.specs.EntryValues.{pairs_text}
 use Rattle.cp_ops.proofs.entry_values.append_pairs_text.Given as goal
 

@@ -1,5 +1,5 @@
 use Rattle.std.proofs.Common.{◌≡◌, ◌++◌, length, ℕ}
-use Rattle.cp_words.specs.Text.{Grew}
+use Rattle.cp_base.specs.Text.{Grew}
 use Rattle.cp_ops.specs.EntryValues.{waits_text}
 use Rattle.cp_ops.proofs.entry_values.append_waits_text.Given as goal
 

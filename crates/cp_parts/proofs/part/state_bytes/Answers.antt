@@ -1,7 +1,7 @@
 use Rattle.std.proofs.Common.{◌≡◌, ◌++◌, ℕ, List, [], ◌∷◌, length, get_or, refl, sym, ◌∙◌, ap, arith}
 use Rattle.std.specs.Int.{w64, to_be_bytes}
 use Rattle.cp_codec.specs.Fields.{big_endian}
-use Rattle.cp_spelling.specs.Common.{index, group_id}
+use Rattle.cp_grammar.specs.Common.{index, group_id}
 use Rattle.cp_parts.specs.Parts.{part_grammar}
 use Rattle.cp_parts.proofs.part.state_bytes.Goals as goal
 

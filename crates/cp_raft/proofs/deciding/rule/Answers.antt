@@ -1,8 +1,8 @@
 use Rattle.std.proofs.Common.{◌≡◌, ℕ, true, false, List, refl, sym, ap, subst, ◌∙◌}
 use Rattle.std.specs.Option.{option_map}
-use Rattle.cp_step.specs.Local.{Event, Got, Propose, Read}
-use Rattle.cp_step.specs.Steps as steps
-use Rattle.cp_step_ranges.specs.Laws.{MayStep}
+use Rattle.cp_rules.specs.Local.{Event, Got, Propose, Read}
+use Rattle.cp_rules.specs.Steps as steps
+use Rattle.cp_rules_ranges.specs.Laws.{MayStep}
 use Rattle.cp_raft_state.specs.Said.{body_in}
 use Rattle.cp_raft.specs.Events.{event_of}
 use Rattle.cp_raft.specs.Frugal.{is_voting}

@@ -1,7 +1,7 @@
 use Rattle.std.proofs.Common.{◌≡◌, false, ap, map, refl, subst, arith}
 use Rattle.cp_message.specs.declared.body.Body.TheVariants as bodies
-use Rattle.cp_step.specs.Local as local
-use Rattle.cp_step.specs.Steps as steps
+use Rattle.cp_rules.specs.Local as local
+use Rattle.cp_rules.specs.Steps as steps
 use Rattle.cp_raft_state.specs.Said.{body_in, entry_in}
 use Rattle.cp_raft.specs.Offices.{takes_office}
 use Rattle.cp_raft.proofs.Voting.{not_on_vote, one_value}

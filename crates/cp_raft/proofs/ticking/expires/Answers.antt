@@ -1,6 +1,6 @@
 use Rattle.std.proofs.Common.{◌≡◌, List, ℕ, true, subst}
-use Rattle.cp_step.specs.Local.{is_leader}
-use Rattle.cp_step.specs.Requests.{proposes}
+use Rattle.cp_rules.specs.Local.{is_leader}
+use Rattle.cp_rules.specs.Requests.{proposes}
 use Rattle.cp_raft_state.specs.Doing.{Does}
 use Rattle.cp_raft.proofs.Beats.{placed_with_room, expired_leads}
 use Rattle.cp_raft.proofs.ticking.expires.Goals as goal

@@ -1,6 +1,6 @@
 use Rattle.std.proofs.Common.{◌∙◌, ℕ, sym, ap, subst}
 use Rattle.std.specs.Prelude.{Some, None}
-use Rattle.cp_step_facts.specs.Soundness.{ReadsBack}
+use Rattle.cp_rules_facts.specs.Soundness.{ReadsBack}
 use Rattle.cp_raft.specs.Ticking.{own_bytes}
 use Rattle.cp_raft.proofs.Beats.{own_due, idled}
 use Rattle.cp_raft.proofs.ticking.idles.Goals as goal

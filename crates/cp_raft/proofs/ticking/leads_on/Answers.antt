@@ -1,7 +1,7 @@
 use Rattle.std.proofs.Common.{◌≡◌, true, false, subst}
 use Rattle.std.specs.Prelude.{Some}
-use Rattle.cp_step.specs.Local.{LocalStep}
-use Rattle.cp_store_state.specs.Persistent.{last}
+use Rattle.cp_rules.specs.Local.{LocalStep}
+use Rattle.cp_log_rules.specs.Persistent.{last}
 use Rattle.cp_replicate.specs.Decisions.{may_expire}
 use Rattle.cp_raft_state.specs.Doing.{Does}
 use Rattle.cp_raft.proofs.Beats.{expiry_room, expiring, not_expiring}

@@ -1,7 +1,7 @@
 use Rattle.std.proofs.Common.{◌≡◌, ◌∙◌, ℕ, true, false, sym, ap, refl}
 use Rattle.std.specs.Prelude.{Some, None, is_some}
 use Rattle.std.specs.Option.{option_map}
-use Rattle.cp_step.specs.Parts.{part_of}
+use Rattle.cp_rules.specs.Parts.{part_of}
 use Rattle.cp_raft.specs.Ticking.{own_bytes, own_part}
 use Rattle.cp_raft.proofs.Beats.{did_with, waited_wrote, waited_idle}
 use Rattle.cp_raft.proofs.ticking.waits.Goals as goal

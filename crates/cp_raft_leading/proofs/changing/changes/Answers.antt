@@ -1,6 +1,6 @@
 use Rattle.std.proofs.Common.{◌≡◌, ℕ, List, length, ap, ◌∙◌, arith}
-use Rattle.cp_step.specs.Changes.{changed}
-use Rattle.cp_step.specs.Persistent.{members}
+use Rattle.cp_rules.specs.Changes.{changed}
+use Rattle.cp_rules.specs.Persistent.{members}
 use Rattle.cp_raft_leading.proofs.Members.{changed_few}
 use Rattle.cp_raft_leading.proofs.changing.changes.Goals as goal
 

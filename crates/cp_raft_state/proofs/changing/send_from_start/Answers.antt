@@ -1,6 +1,6 @@
 use Rattle.std.proofs.Common.{◌∙◌, ap, slice_set}
-use Rattle.cp_step.specs.declared.peer.Peer.{Peer}
-use Rattle.cp_step.specs.Snapshots.{from_start}
+use Rattle.cp_rules.specs.declared.peer.Peer.{Peer}
+use Rattle.cp_rules.specs.Snapshots.{from_start}
 use Rattle.cp_raft_state.proofs.Places.{one_more}
 use Rattle.cp_raft_state.proofs.changing.send_from_start.Goals as goal
 

@@ -1,5 +1,5 @@
 use Rattle.std.proofs.Common.{◌≡◌, ◌++◌, map, take, drop}
-use Rattle.cp_step.specs.Snapshots.{from_start}
+use Rattle.cp_rules.specs.Snapshots.{from_start}
 use Rattle.cp_raft_state.proofs.changing.send_from_start.Given as goal
 
 abbrev pub invariant-loop-member : goal.invariant-loop-member

@@ -1,7 +1,7 @@
 use Rattle.std.proofs.Common.{◌≡◌, ◌++◌}
 use Rattle.std.specs.Prelude.{filter, not}
 use Rattle.std.specs.Vec.Iter.{into_iter_items}
-use Rattle.cp_step.specs.Volatile as step
+use Rattle.cp_rules.specs.Volatile as step
 use Rattle.cp_raft_state.specs.Looking.{ready}
 use Rattle.cp_raft_state.proofs.waiting.split_ready.Given as goal
 

@@ -1,6 +1,6 @@
 use Rattle.std.proofs.Common.{◌≡◌, ◌<◌, ◌≤◌, ◌+◌, suc, length}
-use Rattle.cp_step.specs.Limits.{most_index}
-use Rattle.cp_step.specs.Sending.{within}
+use Rattle.cp_rules.specs.Limits.{most_index}
+use Rattle.cp_rules.specs.Sending.{within}
 use Rattle.cp_replicate.specs.Logs.{from}
 use Rattle.cp_replicate.proofs.batching.within.Given as goal
 

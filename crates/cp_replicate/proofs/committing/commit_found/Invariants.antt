@@ -1,6 +1,6 @@
 use Rattle.std.proofs.Common.{◌≡◌, ◌≤◌, ◌-◌, ◌+◌}
-use Rattle.cp_store_state.specs.Persistent.{last, term_at}
-use Rattle.cp_step.specs.Commit.{greatest, may_commit}
+use Rattle.cp_log_rules.specs.Persistent.{last, term_at}
+use Rattle.cp_rules.specs.Commit.{greatest, may_commit}
 use Rattle.cp_replicate.proofs.committing.commit_found.Given as goal
 
 abbrev pub invariant-loop-above : goal.invariant-loop-above

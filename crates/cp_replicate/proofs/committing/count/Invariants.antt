@@ -1,5 +1,5 @@
 use Rattle.std.proofs.Common.{◌≡◌, ◌+◌, ◌≤◌, length, count_by}
-use Rattle.cp_step.specs.Commit.{holds}
+use Rattle.cp_rules.specs.Commit.{holds}
 use Rattle.cp_replicate.proofs.committing.count.Given as goal
 
 abbrev pub invariant-loop-rest : goal.invariant-loop-rest

@@ -1,5 +1,5 @@
 use Rattle.std.proofs.Common.{◌≡◌, ◌+◌, ◌<◌, ◌^◌, length, map}
-use Rattle.cp_store_state.specs.Persistent.{term_at}
+use Rattle.cp_log_rules.specs.Persistent.{term_at}
 use Rattle.cp_replicate.specs.Logs.{entry_of}
 use Rattle.cp_replicate.specs.Decisions.{differs}
 use Rattle.cp_replicate.proofs.following.first_difference.Given as goal

@@ -1,7 +1,7 @@
 use Rattle.std.proofs.Common.{◌+◌, ◌∙◌, ℕ, suc, length, ap, add-one, []}
 use Rattle.std.proofs.lemmas.Result.{err_from_is_err_and}
 use Rattle.cp_grammar.specs.Lists.{until_reading}
-use Rattle.cp_spelling.proofs.LineLoop.{starts, turns, fails, last, out}
+use Rattle.cp_grammar.proofs.LineLoop.{starts, turns, fails, last, out}
 use Rattle.cp_schedule.specs.Events.{any_line}
 use Rattle.cp_schedule.proofs.event.take_event_rows.Goals as goal
 

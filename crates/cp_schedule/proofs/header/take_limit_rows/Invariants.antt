@@ -1,6 +1,6 @@
 use Rattle.std.proofs.Common.{◌≡◌, ◌-◌, []}
 use Rattle.cp_grammar.specs.Lists.{until_reading}
-use Rattle.cp_spelling.proofs.ItemLoop.{with_front}
+use Rattle.cp_grammar.proofs.ItemLoop.{with_front}
 use Rattle.cp_schedule.specs.Header.{limit_line}
 use Rattle.cp_schedule.proofs.header.take_limit_rows.Given as goal
 

@@ -1,5 +1,5 @@
 use Rattle.std.proofs.Common.{map, length}
-use Rattle.cp_step_ranges.specs.Ranges.{AreInRange}
+use Rattle.cp_rules_ranges.specs.Ranges.{AreInRange}
 use Rattle.cp_raft_state.specs.Said.{entry_in}
 use Rattle.cp_three_members.proofs.coming.are_entries.Given as goal
 

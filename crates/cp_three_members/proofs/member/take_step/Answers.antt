@@ -1,5 +1,5 @@
 use Rattle.cp_log.specs.Stores.{held_by}
-use Rattle.cp_store_state.specs.Durable.{group_in}
+use Rattle.cp_log_rules.specs.Durable.{group_in}
 use Rattle.cp_raft.specs.Events.{event_of}
 use Rattle.cp_raft.specs.Rafts.{seat_of, state_of}
 use Rattle.cp_three_members.proofs.Comes.{may_step, for_one}

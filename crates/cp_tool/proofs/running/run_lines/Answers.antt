@@ -1,5 +1,5 @@
 use Rattle.std.proofs.Common.{◌+◌, ◌∙◌, take, ap, subst, arith}
-use Rattle.cp_run.specs.Execution.{events_of}
+use Rattle.cp_world_rules.specs.Execution.{events_of}
 use Rattle.cp_schedule.specs.Reading.{line_of_event}
 use Rattle.cp_tool.specs.Running.{Runs}
 use Rattle.cp_tool.proofs.Limiting.{next_events, kept_more, limit_here, runs_all, kept_all}

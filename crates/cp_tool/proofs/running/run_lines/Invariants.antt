@@ -1,5 +1,5 @@
 use Rattle.std.proofs.Common.{◌≡◌, take}
-use Rattle.cp_run.specs.Execution.{events_of}
+use Rattle.cp_world_rules.specs.Execution.{events_of}
 use Rattle.cp_tool.specs.Limits.{KeepsLimits}
 use Rattle.cp_tool.specs.Running.{Runs}
 use Rattle.cp_tool.proofs.running.run_lines.Given as goal

@@ -1,6 +1,6 @@
 use Rattle.std.proofs.Common.{◌≡◌, ◌++◌, length}
 use Rattle.std.specs.List.{flat_map}
-use Rattle.cp_words.specs.Text.{Grew}
+use Rattle.cp_base.specs.Text.{Grew}
 use Rattle.cp_transcript.specs.Effects.{opened_line}
 use Rattle.cp_transcript.proofs.effects.append_all_opened.Given as goal
 

@@ -4,7 +4,7 @@ use Rattle.cp_base.specs.Identifiers.{replay_id}
 use Rattle.cp_client_rules.specs.Clients.{Client}
 use Rattle.cp_client_rules.specs.Calls.{call_client}
 use Rattle.cp_client.proofs.Taken.{where_ok}
-use Rattle.cp_run.specs.World.{or_new}
+use Rattle.cp_world_rules.specs.World.{or_new}
 use Rattle.cp_world.proofs.Taking.{gives_new, gives_there}
 use Rattle.cp_world.proofs.clients.call_at.Goals as goal
 

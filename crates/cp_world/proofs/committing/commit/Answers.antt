@@ -3,7 +3,7 @@ use Rattle.cp_ops.specs.declared.entry.Entry.{Entry}
 use Rattle.cp_ops.specs.declared.entry.Entry.TheVariants as entry
 use Rattle.cp_group_state.specs.Apply.{apply}
 use Rattle.cp_client.proofs.Taken.{where_ok}
-use Rattle.cp_run.specs.World as rules
+use Rattle.cp_world_rules.specs.World as rules
 use Rattle.cp_world.specs.declared.world.World.{World}
 use Rattle.cp_world.specs.Following.{Leads}
 use Rattle.cp_world.proofs.Events.{commit_leads}

@@ -1,6 +1,6 @@
 use Rattle.std.proofs.Common.{List, reverse, sym, subst, arith}
 use Rattle.cp_client_rules.specs.Clients.{Asked}
-use Rattle.cp_run.specs.World.{commit, commit_all}
+use Rattle.cp_world_rules.specs.World.{commit, commit_all}
 use Rattle.cp_world.specs.Following.{Leads}
 use Rattle.cp_world.specs.Rooms.{CanCount}
 use Rattle.cp_world.proofs.Leading.{entries_few, leads_on, rest_counts}

@@ -1,5 +1,5 @@
 use Rattle.std.proofs.Common.{reverse, vec_len}
-use Rattle.cp_run.specs.World.{commit_all}
+use Rattle.cp_world_rules.specs.World.{commit_all}
 use Rattle.cp_world.specs.declared.turn.Turn.{Turn}
 use Rattle.cp_world.specs.declared.world.World.{World}
 use Rattle.cp_world.specs.Following.{Leads}

@@ -1,7 +1,7 @@
 use Rattle.std.proofs.Common.{sym, subst}
 use Rattle.std.specs.Prelude.{OnOk}
 use Rattle.cp_events.specs.declared.event.Event.{Event}
-use Rattle.cp_run.specs.World.{begin}
+use Rattle.cp_world_rules.specs.World.{begin}
 use Rattle.cp_world.specs.Following.{Leads}
 use Rattle.cp_world.specs.Rooms.{HasRoomFor}
 use Rattle.cp_world.proofs.event.begin.Goals as goal

@@ -4,7 +4,7 @@ use Rattle.cp_client.specs.declared.output.ClientOut.{ClientOut}
 use Rattle.cp_client_rules.specs.Clients.{Client}
 use Rattle.cp_client_rules.specs.Ticks.{tick_client}
 use Rattle.cp_client.proofs.Taken.{where_ok}
-use Rattle.cp_run.specs.World as rules
+use Rattle.cp_world_rules.specs.World as rules
 use Rattle.cp_world.specs.Given.{GivesAt}
 use Rattle.cp_world.proofs.Parts.{moves_leads, moves_room}
 use Rattle.cp_world.proofs.Taking.{can_count, notes_move, steps, stood}

@@ -1,7 +1,7 @@
 use Rattle.std.proofs.Common.{List, reverse, sym, subst, arith}
 use Rattle.cp_base.specs.declared.identifier.Invocation.{Invocation}
 use Rattle.cp_answers.specs.declared.answer.Answer.{Answer}
-use Rattle.cp_run.specs.World.{hand_all, hand_on}
+use Rattle.cp_world_rules.specs.World.{hand_all, hand_on}
 use Rattle.cp_world.specs.Following.{Leads}
 use Rattle.cp_world.specs.Rooms.{HasRoomFor}
 use Rattle.cp_world.proofs.Leading.{first_room, leads_on, rest_room}

@@ -4,7 +4,7 @@ use Rattle.cp_client.specs.declared.output.ClientOut.{ClientOut}
 use Rattle.cp_client_rules.specs.Clients.{Client}
 use Rattle.cp_client_rules.specs.Answers.{answer_client}
 use Rattle.cp_client.proofs.Taken.{where_ok}
-use Rattle.cp_run.specs.World as rules
+use Rattle.cp_world_rules.specs.World as rules
 use Rattle.cp_world.specs.Given.{GivesAt}
 use Rattle.cp_world.proofs.Taking.{can_count, client_room, notes_nothing, steps, stood}
 use Rattle.cp_world.proofs.handing.hand_to.Goals as goal

@@ -1,6 +1,6 @@
 use Rattle.std.proofs.Common.{refl, sym}
 use Rattle.cp_client.proofs.Cases.{no_items}
-use Rattle.cp_run.specs.World.{handed}
+use Rattle.cp_world_rules.specs.World.{handed}
 use Rattle.cp_world.proofs.Events.{handed_leads, leads_same, none_handed, queue_room}
 use Rattle.cp_world.proofs.handing.handed.Goals as goal
 

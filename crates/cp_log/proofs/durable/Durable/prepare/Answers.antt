@@ -2,8 +2,8 @@ use Rattle.std.proofs.Common.{refl}
 use Rattle.std.specs.Ordering.{nat_cmp}
 use Rattle.std.specs.BTreeMap.{is_at}
 use Rattle.std.specs.Map.{lookup}
-use Rattle.cp_store_state.specs.Durable.{group_at}
-use Rattle.cp_store_state.specs.Legal.{may_vote}
+use Rattle.cp_log_rules.specs.Durable.{group_at}
+use Rattle.cp_log_rules.specs.Legal.{may_vote}
 use Rattle.cp_log.specs.Durables.{durable_of}
 use Rattle.cp_log.proofs.Prepared.{snapshot_bound, stands_some, start_bound, start2_bound}
 use Rattle.cp_log.proofs.RowMaps.{lookup_rows}

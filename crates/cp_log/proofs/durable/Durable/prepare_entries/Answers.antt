@@ -2,9 +2,9 @@ use Rattle.std.proofs.Common.{refl, ap, ◌∙◌, length, arith}
 use Rattle.std.specs.Ordering.{nat_cmp}
 use Rattle.std.specs.BTreeMap.{is_at}
 use Rattle.std.specs.Map.{lookup}
-use Rattle.cp_store_state.specs.Configurations.{configs_in}
-use Rattle.cp_store_state.specs.Durable.{group_at}
-use Rattle.cp_store_state.specs.Legal.{may_append}
+use Rattle.cp_log_rules.specs.Configurations.{configs_in}
+use Rattle.cp_log_rules.specs.Durable.{group_at}
+use Rattle.cp_log_rules.specs.Legal.{may_append}
 use Rattle.cp_log.specs.Durables.{durable_of}
 use Rattle.cp_log.proofs.Prepared.{entries_ready, stands_some}
 use Rattle.cp_log.proofs.RowMaps.{lookup_rows}

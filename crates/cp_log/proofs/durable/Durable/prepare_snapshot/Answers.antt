@@ -3,7 +3,7 @@ use Rattle.std.specs.Ordering.{nat_cmp}
 use Rattle.std.specs.BTreeMap.{is_at}
 use Rattle.std.specs.Map.{lookup}
 use Rattle.cp_parts.specs.Heads.{head_of}
-use Rattle.cp_store_state.specs.Durable.{group_at}
+use Rattle.cp_log_rules.specs.Durable.{group_at}
 use Rattle.cp_log.specs.Durables.{durable_of}
 use Rattle.cp_log.proofs.Prepared.{above_base}
 use Rattle.cp_log.proofs.RowMaps.{lookup_rows}

@@ -1,6 +1,6 @@
 use Rattle.std.proofs.Common.{◌+◌, ℕ, List, length, refl, sym, ◌∙◌, ap, arith}
 use Rattle.cp_journal.specs.Found.{lists}
-use Rattle.cp_store_state.specs.Recovery.{after_body}
+use Rattle.cp_log_rules.specs.Recovery.{after_body}
 use Rattle.cp_log.specs.Durables.{durable_of}
 use Rattle.cp_log.proofs.Recovering.{bad_body, first_and_rest, good_body, next_place, no_body, none_left}
 use Rattle.cp_log.proofs.durable.Durable.recover.Goals as goal

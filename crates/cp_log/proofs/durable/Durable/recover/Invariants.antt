@@ -1,8 +1,8 @@
 use Rattle.std.proofs.Common.{◌≡◌, ◌-◌, ◌^◌, ℕ, length}
 use Rattle.std.specs.Prelude.{min}
 use Rattle.cp_journal.specs.Found.{lists}
-use Rattle.cp_store_state.specs.Durable.{first_state}
-use Rattle.cp_store_state.specs.Recovery.{recovered_from, state_of_bodies}
+use Rattle.cp_log_rules.specs.Durable.{first_state}
+use Rattle.cp_log_rules.specs.Recovery.{recovered_from, state_of_bodies}
 use Rattle.cp_log.specs.Durables.{durable_of}
 use Rattle.cp_log.proofs.durable.Durable.recover.Given as goal
 

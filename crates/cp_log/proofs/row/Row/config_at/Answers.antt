@@ -1,5 +1,5 @@
 use Rattle.std.proofs.Common.{◌≡◌, ◌-◌, false, true, sym, ◌∙◌, arith}
-use Rattle.cp_store_state.proofs.InForce.{last_of_none}
+use Rattle.cp_log_rules.proofs.InForce.{last_of_none}
 use Rattle.cp_log.proofs.RowLemmas.{config_is, config_there, count_bound}
 use Rattle.cp_log.proofs.row.Row.config_at.Goals as goal
 

@@ -1,4 +1,4 @@
-use Rattle.cp_store_state.proofs.InForce.{configs_rise}
+use Rattle.cp_log_rules.proofs.InForce.{configs_rise}
 use Rattle.cp_log.proofs.row.Row.count_configs.Goals as goal
 
 pub count_up_to-requires : goal.count_up_to-requires

@@ -1,8 +1,8 @@
 use Rattle.std.proofs.Common.{◌≡◌, ◌-◌, ◌++◌, List, take, refl, sym, ◌∙◌, ap}
 use Rattle.cp_parts.specs.declared.config.Config.{Config}
 use Rattle.cp_parts.specs.declared.log_entry.LogEntry.{LogEntry}
-use Rattle.cp_store_state.specs.Configurations.{configs_in}
-use Rattle.cp_store_state.proofs.InForce.{count_within, entries_configs}
+use Rattle.cp_log_rules.specs.Configurations.{configs_in}
+use Rattle.cp_log_rules.proofs.InForce.{count_within, entries_configs}
 use Rattle.cp_log.proofs.RowLemmas.{entries_short}
 use Rattle.cp_log.proofs.row.Row.put_entries.Goals as goal
 

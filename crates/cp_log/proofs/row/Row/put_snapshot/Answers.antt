@@ -1,7 +1,7 @@
 use Rattle.std.proofs.Common.{◌≡◌, ◌≤◌, ◌+◌, ◌-◌, true, ℕ, [], length, drop, sym, ◌∙◌, ap, arith}
 use Rattle.std.specs.Prelude.{if◌then◌else◌}
-use Rattle.cp_store_state.specs.Configurations.{configs_in}
-use Rattle.cp_store_state.proofs.InForce.{count_within, suffix_configs}
+use Rattle.cp_log_rules.specs.Configurations.{configs_in}
+use Rattle.cp_log_rules.proofs.InForce.{count_within, suffix_configs}
 use Rattle.cp_log.proofs.RowLemmas.{count_bound, suffix_short, term_within}
 use Rattle.cp_log.proofs.row.Row.put_snapshot.Goals as goal
 

@@ -1,4 +1,4 @@
-use Rattle.cp_store_state.specs.Durable.{first_state}
+use Rattle.cp_log_rules.specs.Durable.{first_state}
 use Rattle.cp_log.specs.Stores.{disk_of}
 use Rattle.cp_log.proofs.Opened.{sound_opening}
 use Rattle.cp_log.proofs.store.Store.open.Goals as goal

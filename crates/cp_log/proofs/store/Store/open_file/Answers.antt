@@ -3,7 +3,7 @@ use Rattle.std.specs.Prelude.{Ok}
 use Rattle.cp_journal.specs.Found.{lists}
 use Rattle.cp_journal.specs.Journals as journals
 use Rattle.cp_journal.specs.Records.{records_of}
-use Rattle.cp_store_state.specs.Durable.{DurableState, first_state}
+use Rattle.cp_log_rules.specs.Durable.{DurableState, first_state}
 use Rattle.cp_log.specs.Causes.{OpenCause}
 use Rattle.cp_log.specs.Durables.{durable_of}
 use Rattle.cp_log.specs.Files.{file_state, sizes}

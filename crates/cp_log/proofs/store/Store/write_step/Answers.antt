@@ -3,7 +3,7 @@ use Rattle.std.specs.Prelude.{Ok, is_ok, if◌then◌else◌}
 use Rattle.cp_journal.specs.Journals as journals
 use Rattle.cp_journal.specs.Records.{and_record, records_of}
 use Rattle.cp_parts.specs.Parts.{part_grammar}
-use Rattle.cp_store_state.specs.Durable.{first_state, with_part}
+use Rattle.cp_log_rules.specs.Durable.{first_state, with_part}
 use Rattle.cp_log.specs.Durables.{durable_of}
 use Rattle.cp_log.specs.Files.{file_state}
 use Rattle.cp_log.proofs.Opened.{either_sound}

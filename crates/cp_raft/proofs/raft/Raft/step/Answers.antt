@@ -1,12 +1,12 @@
 use Rattle.std.proofs.Common.{◌&&◌, not, Option, IfSome, sym, ap, subst, ◌∙◌}
-use Rattle.cp_store_state.specs.Persistent.{PersistentState}
-use Rattle.cp_store_state.specs.Durable.{group_in}
+use Rattle.cp_log_rules.specs.Persistent.{PersistentState}
+use Rattle.cp_log_rules.specs.Durable.{group_in}
 use Rattle.cp_log.specs.Stores.{held_by}
 use Rattle.cp_parts.specs.declared.down.Down.TheVariants as down
-use Rattle.cp_step.specs.declared.role.Role.{Role}
-use Rattle.cp_step.specs.Local.{Event, is_leader}
-use Rattle.cp_step.specs.Steps.{step}
-use Rattle.cp_step_ranges.specs.Laws.{MayStep}
+use Rattle.cp_rules.specs.declared.role.Role.{Role}
+use Rattle.cp_rules.specs.Local.{Event, is_leader}
+use Rattle.cp_rules.specs.Steps.{step}
+use Rattle.cp_rules_ranges.specs.Laws.{MayStep}
 use Rattle.cp_raft.specs.Deciding.{Decides}
 use Rattle.cp_raft.specs.Events.{event_of}
 use Rattle.cp_raft.specs.Groups.{stored_by}

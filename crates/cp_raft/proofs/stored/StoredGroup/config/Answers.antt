@@ -1,8 +1,8 @@
 use Rattle.std.proofs.Common.{ap, ◌∙◌}
 use Rattle.cp_log.specs.Stores.{held_by}
-use Rattle.cp_store_state.specs.Configurations.{config_at}
-use Rattle.cp_store_state.specs.Durable.{group_in}
-use Rattle.cp_raft_log.proofs.Configs.{in_force}
+use Rattle.cp_log_rules.specs.Configurations.{config_at}
+use Rattle.cp_log_rules.specs.Durable.{group_in}
+use Rattle.cp_raft_state.proofs.Configs.{in_force}
 use Rattle.cp_raft.proofs.stored.StoredGroup.config.Goals as goal
 
 pub returns : goal.returns

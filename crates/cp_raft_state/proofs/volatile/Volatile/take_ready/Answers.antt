@@ -1,8 +1,8 @@
 use Rattle.std.proofs.Common.{◌∙◌, ap, sym, true≢false, List}
 use Rattle.std.specs.Prelude.{filter}
 use Rattle.cp_snapshot.specs.Assemblers as assemblers
-use Rattle.cp_step.specs.Confirming as confirming
-use Rattle.cp_step.specs.Volatile.{Look, VolatileState}
+use Rattle.cp_rules.specs.Confirming as confirming
+use Rattle.cp_rules.specs.Volatile.{Look, VolatileState}
 use Rattle.cp_raft_state.specs.Looking.{without_ready}
 use Rattle.cp_raft_state.proofs.volatile.Volatile.take_ready.Goals as goal
 

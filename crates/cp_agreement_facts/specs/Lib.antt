@@ -1,0 +1,5 @@
+pub mod Entries
+pub mod Configurations
+pub mod Logs
+pub mod Clusters
+pub mod Facts

@@ -1,5 +1,0 @@
-use Rattle.cp_causes.proofs.answers_have_causes.Goals as goal
-use Rattle.cp_causes.proofs.Caused.{have-causes}
-
-pub returns : goal.returns
-returns c = have-causes

@@ -1,0 +1,522 @@
+-- Each answer of a history has its cause: an induction over the entries.
+use Rattle.std.proofs.Common.{◌≡◌, ℕ, ◌+◌, ◌-◌, ◌^◌, ◌<◌, ◌≤◌, ◌⊎◌, inl, inr, Bool, true, false, List, [], ◌∷◌, ◌++◌, Some, None, Option, refl, sym, subst, ap, ◌∙◌, arith, length, zero, suc, le_trans, if◌then◌else◌}
+use Rattle.std.specs.Prelude.{◌==◌, nat_lt, Contains, slice_get}
+use Rattle.std.specs.Ordering.{nat_cmp}
+use Rattle.std.proofs.lemmas.Bool.Decides.{nat_tests}
+use Rattle.std.proofs.lemmas.List.Elements.{All-contains, All-nil, Contains-append_cases, Contains-append_right}
+use Rattle.cp_base.specs.declared.identifier.ClientId.{ClientId}
+use Rattle.cp_base.specs.declared.identifier.GroupId.{GroupId}
+use Rattle.cp_base.specs.declared.identifier.Invocation.{Invocation}
+use Rattle.cp_base.proofs.Tests.{same_number, less, no_true, same_some}
+use Rattle.cp_answers.specs.declared.answer.Answer.{Answer}
+use Rattle.cp_answers.specs.declared.answer.Answer.TheVariants as answer
+use Rattle.cp_ops.specs.declared.entry.Entry.{Entry}
+use Rattle.cp_ops.specs.declared.entry.Entry.TheVariants as entry
+use Rattle.cp_ops.specs.declared.op.Op.{Op}
+use Rattle.cp_ops.specs.declared.op.Op.TheVariants as op
+use Rattle.cp_ops.specs.declared.session_op.SessionOp.TheVariants as session
+use Rattle.cp_group_state.specs.Rows.{Object, find, most, holder_cmp}
+use Rattle.cp_group_state.specs.declared.rows.Waiter.{Waiter}
+use Rattle.cp_group_state.specs.Waiters.{Ended, stands}
+use Rattle.cp_group_state.specs.declared.rows.MemoryRow.{MemoryRow}
+use Rattle.cp_group_state.specs.declared.rows.SessionRow.{SessionRow}
+use Rattle.cp_group_state.specs.Sessions.{is_of, is_open_for, unchanged_since}
+use Rattle.cp_group_state.specs.declared.rows.LatchRow.{LatchRow}
+use Rattle.cp_group_state.specs.GroupState.{GroupState, empty}
+use Rattle.cp_group_state.specs.Changes.{Change, end_all, for_each}
+use Rattle.cp_group_state.specs.Closing.{close}
+use Rattle.cp_group_state.specs.Serving.{serve_left}
+use Rattle.cp_group_state.specs.Outcomes.{Outcome, Reply, Answered, Waits}
+use Rattle.cp_group_state.specs.Destroying.{is_gone, names_gone, object_of}
+use Rattle.cp_group_state.specs.Protected.{session_in}
+use Rattle.cp_group_state.specs.Apply.{Applied, apply, apply_call, by_memory, by_session, give_again, is_elsewhere, members_answer, outcome, perform, rule, run, settle, settle_wait, supersede, time_out, told}
+use Rattle.cp_group_state.specs.History.{History, IsBelow, IsOrderly, IsOrderlyAt, IsOrderlyFrom}
+use Rattle.cp_group_state.proofs.Walk.{cases, either}
+use Rattle.cp_group_state.proofs.Grows.{Grows, is_of-same}
+use Rattle.cp_group_state.proofs.Steps.{RoundsWithin, grows-apply, grows-supersede, within-apply}
+use Rattle.cp_group_state.proofs.Told.{Told, tells_closed, told-apply}
+use Rattle.cp_group_state.proofs.Walk.{walk_supersede}
+use Rattle.cp_group_state.proofs.Asked.{AllAsked, asked-apply, asked-supersede}
+use Rattle.cp_group_state.proofs.Keyed.{same-client}
+use Rattle.cp_group_causes.specs.Moments.{StandsBy, WasOpenFor, SessionsAreOwn, session_used, state_after, state_before}
+use Rattle.cp_group_causes.specs.Causes.{HasCause, IsClosed, IsExpired, IsRuled}
+use Rattle.cp_group_causes.specs.Laws.{AllHaveCauses}
+use Rattle.cp_group_causes.proofs.Lists.{no-element, one-is, one-only, at-head, mapped, get-contains, get-in}
+use Rattle.cp_group_causes.proofs.Acts.{Acts, Closes, Destroys, IsEndedBy, MayEnd, SessionsUpTo, acts-end_all, acts-expire, acts-outcome, acts-supersede, acts-time_out}
+use Rattle.cp_group_causes.proofs.Rules.{IsOfRule, RepliesSo, rule-replies}
+use Rattle.cp_group_causes.proofs.After.{After, IsOldRow, IsOwnRow, after-apply}
+
+-- one entry more
+state-next : (n i j : ℕ) (es : List Entry) (e : Entry) (s : GroupState) → j ≡ i + n → slice_get es n ≡ Some e → state_after (suc n) i es s ≡ (apply j e (state_after n i es s)).state
+state-next n i j [] e s h is = absurd (no is) where
+  no : None ≡ Some e → ⊥
+  no k = cc
+state-next zero i j (x ∷ es) e s h is = let same : i ≡ j = omega (arith, h) in ap (λ k. (apply k x s).state) same ∙ ap (λ y. (apply j y s).state) (same_some is)
+state-next (suc n) i j (x ∷ es) e s h is = state-next n (i + 1) j es e (apply i x s).state (omega (arith, h)) is
+
+-- what an entry gives is what the run has at its place
+run-gives : (n i j : ℕ) (es : List Entry) (e : Entry) (s : GroupState) (x : Applied) → j ≡ i + n → slice_get es n ≡ Some e → slice_get (run i es s) n ≡ Some x → x ≡ apply j e (state_after n i es s)
+run-gives n i j [] e s x h is got = absurd (no is) where
+  no : None ≡ Some e → ⊥
+  no k = cc
+run-gives zero i j (y ∷ es) e s x h is got = let same : i ≡ j = omega (arith, h) in sym (same_some got) ∙ (ap (λ k. apply k y s) same ∙ ap (λ z. apply j z s) (same_some is))
+run-gives (suc n) i j (y ∷ es) e s x h is got = run-gives n (i + 1) j es e (apply i y s).state x (omega (arith, h)) is got
+
+-- each place of the run is that of an entry
+run-entry : (n i : ℕ) (es : List Entry) (s : GroupState) (x : Applied) → slice_get (run i es s) n ≡ Some x → (e : Entry) × (slice_get es n ≡ Some e)
+run-entry n i [] s x got = absurd (no got) where
+  no : None ≡ Some x → ⊥
+  no k = cc
+run-entry zero i (y ∷ es) s x got = (y, refl)
+run-entry (suc n) i (y ∷ es) s x got = run-entry n (i + 1) es (apply i y s).state x got
+
+-- each entry is orderly where it stands
+orderly-at : (n i j : ℕ) (es : List Entry) (e : Entry) (s : GroupState) → j ≡ i + n → slice_get es n ≡ Some e → IsOrderlyFrom i es s → IsOrderlyAt j e (state_after n i es s)
+orderly-at n i j [] e s h is all = absurd (no is) where
+  no : None ≡ Some e → ⊥
+  no k = cc
+orderly-at zero i j (y ∷ es) e s h is all = let same : i ≡ j = omega (arith, h) in subst (λ z. IsOrderlyAt j z s) (same_some is) (subst (λ k. IsOrderlyAt k y s) same all.0)
+orderly-at (suc n) i j (y ∷ es) e s h is all = orderly-at n (i + 1) j es e (apply i y s).state (omega (arith, h)) is all.1
+
+-- a session that an operation names is one that it works in
+pub names-used : (o : Op) (s : ℕ) → session_in o ≡ Some s → session_used o ≡ Some s
+names-used (op.Session l) s h = absurd (no h) where
+  no : None ≡ Some s → ⊥
+  no k = cc
+names-used (op.Long name l) s h = h
+names-used (op.Ref name l) s h = h
+names-used (op.Map name l) s h = h
+names-used (op.Lock name l) s h = h
+names-used (op.Sem name l) s h = h
+names-used (op.Jsem name l) s h = h
+names-used (op.Latch name l) s h = h
+names-used (op.Destroy which name) s h = h
+names-used (op.Group l) s h = h
+names-used (op.Member l) s h = h
+names-used (op.Change l) s h = h
+
+module _ (history : History) where
+  stands-later : (n m : ℕ) (e : Entry) → n ≤ m → StandsBy history n e → StandsBy history m e
+  stands-later n m e l h = record { place = h.place; in_time = le_trans h.in_time l; there = h.there }
+
+  pub cause-later : (n m : ℕ) (call : Invocation) (a : Answer) → n ≤ m → HasCause history n call a → HasCause history m call a
+  cause-later n m call answer.NotOwner l h = record { op = h.op; place = h.place; in_time = le_trans h.in_time l; own = h.own; given = h.given }
+  cause-later n m call (answer.LimitReached x) l h = record { op = h.op; place = h.place; in_time = le_trans h.in_time l; own = h.own; given = h.given }
+  cause-later n m call (answer.NotHeld x) l h = record { op = h.op; place = h.place; in_time = le_trans h.in_time l; own = h.own; given = h.given }
+  cause-later n m call answer.NotInitialized l h = record { op = h.op; place = h.place; in_time = le_trans h.in_time l; own = h.own; given = h.given }
+  cause-later n m call (answer.TableFull x) l h = record { op = h.op; place = h.place; in_time = le_trans h.in_time l; own = h.own; given = h.given }
+  cause-later n m call (answer.BadArgument x) l h = record { op = h.op; place = h.place; in_time = le_trans h.in_time l; own = h.own; given = h.given }
+  cause-later n m call (answer.SessionExpired s) l (inl h) = inl (h.0, stands-later n m _ l h.1)
+  cause-later n m call (answer.SessionExpired s) l (inr h) = inr (h.0, h.1, stands-later n m _ l h.2)
+  cause-later n m call answer.TimedOut l (inl h) = inl (h.0, stands-later n m _ l h.1, h.2)
+  cause-later n m call answer.TimedOut l (inr h) = inr (h.0, h.1, stands-later n m _ l h.2)
+  cause-later n m call (answer.WaitCancelled x) l h = (h.0, h.1, stands-later n m _ l h.2, h.3, h.4, h.5, h.6)
+  cause-later n m call (answer.Stale x) l h = (h.0, h.1, stands-later n m _ l h.2, h.3, h.4, h.5, h.6)
+  cause-later n m call answer.ObjectDestroyed l h = (h.0, h.1, h.2, h.3, h.4, h.5, stands-later n m _ l h.6)
+  cause-later n m call (answer.GroupDestroyed g) l h = stands-later n m _ l h
+  cause-later n m call answer.OwnershipLost l h = absurd h
+  cause-later n m call (answer.Indeterminate by) l h = absurd h
+  cause-later n m call a l h = tt
+
+  -- the session was closed by now
+  abbrev pub IsOver : ℕ → ℕ → Type 0
+  IsOver n x = IsClosed history n x ⊎ IsExpired history n x
+
+  over-later : (n m x : ℕ) → n ≤ m → IsOver n x → IsOver m x
+  over-later n m x l (inl h) = inl (h.0, stands-later n m _ l h.1)
+  over-later n m x l (inr h) = inr (h.0, h.1, stands-later n m _ l h.2)
+
+  -- What holds before the entry at this place, where so much was told.
+  pub record Knows (place : ℕ) (past : List (Invocation × Answer)) (s : GroupState) : Type 0 where
+    pub here : state_before history place ≡ s
+    pub rounds : RoundsWithin place s.latches
+    pub answers : Told (place + 1) past s
+    pub caused : (call : Invocation) (a : Answer) → Contains past (call, a) → HasCause history place call a
+    pub asked : AllAsked history s
+    pub gone : (key : Object) → is_gone s key ≡ true → (by : Invocation) × StandsBy history place (entry.Call by (op.Destroy key.1 key.0))
+    pub destroyed : (s.destroyed_group.0 == 0) ≡ false → StandsBy history place (entry.Destroy s.destroyed_group)
+    pub sessions : (x : ℕ) (client : ClientId) → WasOpenFor history place x client → (is_open_for s.sessions x client ≡ true) ⊎ IsOver place x
+    pub upto : SessionsUpTo place s
+    pub memory : (x thread : ℕ) (row : MemoryRow) → find holder_cmp s.memory (x, thread) ≡ Some row → (client : ClientId) → is_open_for s.sessions x client ≡ true
+        → (o : Op) × StandsBy history place (entry.Call (record { client = client; thread = record { 0 = thread }; number = row.number }) o)
+
+  -- the entry at this place
+  module _ (place : ℕ) (e : Entry) (is : slice_get history place ≡ Some e) where
+    now : StandsBy history (place + 1) e
+    now = record { place = place; in_time = omega arith; there = is }
+
+    stands-as : (x : Entry) → e ≡ x → StandsBy history (place + 1) x
+    stands-as x same = subst (StandsBy history (place + 1)) same now
+
+    closes-over : (x : ℕ) → Closes e x → IsOver (place + 1) x
+    closes-over x (inl h) = inl (h.0, stands-as _ h.1)
+    closes-over x (inr h) = inr (h.0, h.2, stands-as _ h.1)
+
+    -- whom the entry ends
+    end-cause : (w : Waiter) (a : Answer) → MayEnd e w a → (o : Op) → Contains history (entry.Call w.call o) → object_of o ≡ Some (w.name, w.kind) → HasCause history (place + 1) w.call a
+    end-cause w answer.Ok h o there names = tt
+    end-cause w (answer.Bool b) h o there names = tt
+    end-cause w (answer.Fence f) h o there names = tt
+    end-cause w (answer.SessionExpired x) h o there names = closes-over x h
+    end-cause w answer.TimedOut h o there names = inr (h.0, h.2, stands-as _ h.1)
+    end-cause w (answer.WaitCancelled n) h o there names = (h.0, h.1, stands-as _ h.2, h.3, h.4, h.5, h.6)
+    end-cause w answer.ObjectDestroyed h o there names = (o, w.kind, w.name, h.0, there, names, stands-as _ h.1)
+    end-cause w (answer.GroupDestroyed g) h o there names = stands-as _ h
+    end-cause w a h o there names = absurd h
+
+    told-causes : (i : ℕ) (s : GroupState) (c : Change) → Acts i e s c → AllAsked history s → (call : Invocation) (a : Answer) → Contains (told c.ended) (call, a) → HasCause history (place + 1) call a
+    told-causes i s c f asked call a h = let x = mapped (λ (y : Ended). (y.waiter.call, y.answer)) c.ended (call, a) h in
+        let ended = All-contains (IsEndedBy e s) c.ended x.0 f.1 x.1 in let own = asked x.0.waiter ended.0 in
+        subst (λ (y : Invocation × Answer). HasCause history (place + 1) y.0 y.1) (sym x.2) (end-cause x.0.waiter x.0.answer ended.1 own.0 own.1 own.2)
+
+  -- the entry of a call at this place
+  module _ (place : ℕ) (call : Invocation) (o : Op) (is : slice_get history place ≡ Some (entry.Call call o)) (past : List (Invocation × Answer)) (s : GroupState) (knows : Knows place past s)
+      (owns : SessionsAreOwn history) (ord : IsOrderlyAt (place + 1) (entry.Call call o) s) (within : RoundsWithin (2 ^ 62 - 1) s.latches) where
+    abbrev i : ℕ
+    i = place + 1
+
+    abbrev e : Entry
+    e = entry.Call call o
+
+    abbrev t : GroupState
+    t = (supersede call s).state
+
+    acts : Acts i (entry.Call call o) s (supersede call s)
+    acts = acts-supersede i call o s
+
+    asked-t : AllAsked history t
+    asked-t = (asked-supersede history i call s knows.asked).0
+
+    first-told : (c : Invocation) (a : Answer) → Contains (told (supersede call s).ended) (c, a) → HasCause history i c a
+    first-told c a h = told-causes place (entry.Call call o) is i s (supersede call s) acts knows.asked c a h
+
+    -- a session that the call works in is open for its client, or was closed
+    used-open : (x : ℕ) → session_used o ≡ Some x → (is_open_for t.sessions x call.client ≡ true) ⊎ IsOver i x
+    used-open x used = at (knows.sessions x call.client (owns place call o x is used)) where
+      after : (is_open_for t.sessions x call.client ≡ true) ⊎ Closes e x → (is_open_for t.sessions x call.client ≡ true) ⊎ IsOver i x
+      after (inl h) = inl h
+      after (inr h) = inr (closes-over place (entry.Call call o) is x h)
+
+      at : (is_open_for s.sessions x call.client ≡ true) ⊎ IsOver place x → (is_open_for t.sessions x call.client ≡ true) ⊎ IsOver i x
+      at (inl h) = let l = knows.upto x call.client h in after (acts.2 x call.client (omega (arith, l)) h)
+      at (inr h) = inr (over-later place i x (omega arith) h)
+
+    abbrev Is : Invocation × Answer → Invocation × Answer → Type 0
+    Is p q = p ≡ q
+
+    -- the rule's own answer
+    abbrev Given : Answer → Type 0
+    Given a = Contains (perform i call o t).answers (call, a)
+
+    ruled : (a : Answer) → Given a → IsRuled history i call a
+    ruled a given = record { op = o; place = place; in_time = omega arith; own = is; given = subst (λ u. Contains (perform i call o (supersede call u).state).answers (call, a)) (sym knows.here) given }
+
+    beat-over : (x : ℕ) → o ≡ op.Session (session.Beat x) → find nat_cmp t.sessions x ≡ None → IsOver i x
+    beat-over x same none = at (used-open x (rw same refl)) where
+      no : is_of call.client None ≡ true → ⊥
+      no k = cc
+
+      at : (is_open_for t.sessions x call.client ≡ true) ⊎ IsOver i x → IsOver i x
+      at (inl h) = absurd (no (is_of-same call.client (find nat_cmp t.sessions x) None none h))
+      at (inr h) = h
+
+    rule-cause : (a : Answer) → IsOfRule o t a → Given a → HasCause history i call a
+    rule-cause answer.NotOwner h given = ruled answer.NotOwner given
+    rule-cause (answer.LimitReached n) h given = ruled (answer.LimitReached n) given
+    rule-cause (answer.NotHeld n) h given = ruled (answer.NotHeld n) given
+    rule-cause answer.NotInitialized h given = ruled answer.NotInitialized given
+    rule-cause (answer.TableFull n) h given = ruled (answer.TableFull n) given
+    rule-cause (answer.BadArgument x) h given = ruled (answer.BadArgument x) given
+    rule-cause (answer.SessionExpired x) h given = beat-over x h.0 h.1
+    rule-cause answer.TimedOut h given = inl (o, now place (entry.Call call o) is, h)
+    rule-cause (answer.WaitCancelled n) h given = absurd h
+    rule-cause (answer.Stale n) h given = absurd h
+    rule-cause answer.ObjectDestroyed h given = absurd h
+    rule-cause (answer.GroupDestroyed g) h given = absurd h
+    rule-cause answer.OwnershipLost h given = absurd h
+    rule-cause (answer.Indeterminate by) h given = absurd h
+    rule-cause a h given = tt
+
+    gone-cause : (ob : Option Object) → object_of o ≡ ob → names_gone t ob ≡ true → HasCause history i call answer.ObjectDestroyed
+    gone-cause None same h = absurd (no h) where
+      no : false ≡ true → ⊥
+      no k = cc
+    gone-cause (Some key) same h = at (acts.4 key h) where
+      here : Contains history (entry.Call call o)
+      here = get-contains history place (entry.Call call o) is
+
+      at : (is_gone s key ≡ true) ⊎ Destroys e key → HasCause history i call answer.ObjectDestroyed
+      at (inl g) = let x = knows.gone key g in (o, key.1, key.0, x.0, here, same, stands-later place i _ (omega arith) x.1)
+      at (inr g) = (o, key.1, key.0, g.0, here, same, stands-as place (entry.Call call o) is _ g.1)
+
+    -- an answer of the outcome
+    abbrev OfOutcome : Reply → Type 0
+    OfOutcome (Answered a) = Given a → HasCause history i call a
+    OfOutcome (Waits w) = Unit {0}
+
+    of-replies : (r : Reply) → RepliesSo o t r → OfOutcome r
+    of-replies (Answered a) h = rule-cause a h
+    of-replies (Waits w) h = tt
+
+    outcome-cause : OfOutcome (outcome i call o t).reply
+    outcome-cause = cases (λ (r : Outcome). OfOutcome r.reply) (names_gone t (object_of o)) _ _ (λ h given. gone-cause (object_of o) refl h) (λ h. of-replies (rule i call o t).reply (rule-replies i call o t))
+
+    acts-t : Acts i (entry.Call call o) t (outcome i call o t).change
+    acts-t = acts-outcome i call o t
+
+    later-told : (c : Invocation) (a : Answer) → Contains (told (outcome i call o t).change.ended) (c, a) → HasCause history i c a
+    later-told c a h = told-causes place (entry.Call call o) is i t (outcome i call o t).change acts-t asked-t c a h
+
+    full-cause : (c : Change) (w : Waiter) (so : Option ℕ) (x : Invocation) (a : Answer) → Contains (settle_wait so call w c.state).answers (x, a)
+        → (Contains (settle_wait so call w c.state).answers (call, answer.TableFull most) → HasCause history i call (answer.TableFull most)) → HasCause history i x a
+    full-cause c w so x a = either (λ (r : Applied). Contains r.answers (x, a) → (Contains r.answers (call, answer.TableFull most) → HasCause history i call (answer.TableFull most)) → HasCause history i x a)
+        (stands call c.state.waiters) _ _ (λ h f. absurd (no-element (x, a) h))
+        (either (λ (r : Applied). Contains r.answers (x, a) → (Contains r.answers (call, answer.TableFull most) → HasCause history i call (answer.TableFull most)) → HasCause history i x a)
+        (nat_lt (length c.state.waiters) most) _ _ (λ h f. absurd (no-element (x, a) h))
+        (λ h f. subst (λ (y : Invocation × Answer). HasCause history i y.0 y.1) (sym (one-is (call, answer.TableFull most) (x, a) h)) (f (at-head (call, answer.TableFull most) []))))
+
+    settle-cause : (r : Reply) → OfOutcome r → (so : Option ℕ) → ((a : Answer) → Contains (settle so call r (outcome i call o t).change).answers (call, a) → Given a) → (x : Invocation) (a : Answer)
+        → Contains (settle so call r (outcome i call o t).change).answers (x, a) → HasCause history i x a
+    settle-cause (Answered b) own so gives x a h = at (one-only (call, b) (x, a) (told (outcome i call o t).change.ended) h) where
+      at : Is (x, a) (call, b) ⊎ Contains (told (outcome i call o t).change.ended) (x, a) → HasCause history i x a
+      at (inl k) = subst (λ (y : Invocation × Answer). HasCause history i y.0 y.1) (sym k) (own (gives b (at-head (call, b) (told (outcome i call o t).change.ended))))
+      at (inr k) = later-told x a k
+    settle-cause (Waits w) own so gives x a h = at (Contains-append_cases (told (outcome i call o t).change.ended) (settle_wait so call w (outcome i call o t).change.state).answers (x, a) h) where
+      at : Contains (told (outcome i call o t).change.ended) (x, a) ⊎ Contains (settle_wait so call w (outcome i call o t).change.state).answers (x, a) → HasCause history i x a
+      at (inl k) = later-told x a k
+      at (inr k) = full-cause (outcome i call o t).change w so x a k (λ g. ruled (answer.TableFull most) (gives (answer.TableFull most) (Contains-append_right (told (outcome i call o t).change.ended) (settle_wait so call w (outcome i call o t).change.state).answers (call, answer.TableFull most) g)))
+
+    perform-cause : (x : Invocation) (a : Answer) → Contains (perform i call o t).answers (x, a) → HasCause history i x a
+    perform-cause x a h = settle-cause (outcome i call o t).reply outcome-cause (session_in o) (λ b g. g) x a h
+
+    -- by the memory
+    grows-t : Grows i s t
+    grows-t = grows-supersede i call s
+
+    told-t : Told i (past ++ told (supersede call s).ended) t
+    told-t = walk_supersede i (λ s c. (past : List (Invocation × Answer)) → Told i past s → Told i (past ++ told c.ended) c.state) (tells_closed i) call s past knows.answers
+
+    again-cause : (x : ℕ) (row : MemoryRow) → find holder_cmp t.memory (x, call.thread.0) ≡ Some row → is_open_for t.sessions x call.client ≡ true → row.number ≡ call.number → (c : Invocation) (a : Answer) → Contains (give_again call row.answer) (c, a) → HasCause history i c a
+    again-cause x row there opened same c a h = given row.answer refl h where
+      before : (b : Answer) → Contains past (call, b) ⊎ Contains (told (supersede call s).ended) (call, b) → HasCause history i call b
+      before b (inl k) = cause-later place i call b (omega arith) (knows.caused call b k)
+      before b (inr k) = first-told call b k
+
+      given : (r : Option Answer) → row.answer ≡ r → Contains (give_again call r) (c, a) → HasCause history i c a
+      given None r_is h = absurd (no-element (c, a) h)
+      given (Some b) r_is h = subst (λ (y : Invocation × Answer). HasCause history i y.0 y.1) (sym (one-is (call, b) (c, a) h))
+          (before b (Contains-append_cases past (told (supersede call s).ended) (call, b)
+          (subst (λ n. Contains (past ++ told (supersede call s).ended) (record { client = call.client; thread = call.thread; number = n }, b)) same ((told-t.memory x call.thread.0 row there).1 b r_is call.client opened))))
+
+    stale-cause : (x : ℕ) (row : MemoryRow) → session_in o ≡ Some x → find holder_cmp t.memory (x, call.thread.0) ≡ Some row → is_open_for t.sessions x call.client ≡ true → call.number < row.number → HasCause history i call (answer.Stale row.number)
+    stale-cause x row names there opened less = let old = acts.5 (x, call.thread.0) row there in
+        let below : x < i = subst (λ so. IsBelow i so) names ord.0 in
+        let was : is_open_for s.sessions x call.client ≡ true = grows-t.opened x call.client below opened in
+        let by = knows.memory x call.thread.0 old.0 old.1 call.client was in
+        (record { client = call.client; thread = call.thread; number = old.0.number }, by.0, stands-later place i _ (omega arith) by.1, refl, refl, old.2, less)
+
+    memory-cause : (x : ℕ) (r : Option MemoryRow) → session_in o ≡ Some x → find holder_cmp t.memory (x, call.thread.0) ≡ r → is_open_for t.sessions x call.client ≡ true → (c : Invocation) (a : Answer) → Contains (by_memory i call o r t).answers (c, a) → HasCause history i c a
+    memory-cause x None names there opened c a = perform-cause c a
+    memory-cause x (Some row) names there opened c a = cases (λ (r : Applied). Contains r.answers (c, a) → HasCause history i c a) (row.number == call.number) _ _
+        (λ same h. again-cause x row there opened (same_number row.number call.number same) c a h)
+        (λ apart. cases (λ (r : Applied). Contains r.answers (c, a) → HasCause history i c a) (nat_lt call.number row.number) _ _
+        (λ less h. subst (λ (y : Invocation × Answer). HasCause history i y.0 y.1) (sym (one-is (call, answer.Stale row.number) (c, a) h)) (stale-cause x row names there opened (less call.number row.number less)))
+        (λ less h. perform-cause c a h))
+
+    expired-cause : (x : ℕ) → session_in o ≡ Some x → is_open_for t.sessions x call.client ≡ false → HasCause history i call (answer.SessionExpired x)
+    expired-cause x names closed = at (used-open x (names-used o x names)) where
+      at : (is_open_for t.sessions x call.client ≡ true) ⊎ IsOver i x → IsOver i x
+      at (inl h) = absurd (no_true (sym h ∙ closed))
+      at (inr h) = h
+
+    session-cause : (so : Option ℕ) → session_in o ≡ so → (c : Invocation) (a : Answer) → Contains (by_session i call o so t).answers (c, a) → HasCause history i c a
+    session-cause None names c a = perform-cause c a
+    session-cause (Some x) names c a = cases (λ (r : Applied). Contains r.answers (c, a) → HasCause history i c a) (is_open_for t.sessions x call.client) _ _
+        (λ opened h. memory-cause x (find holder_cmp t.memory (x, call.thread.0)) names refl opened c a h)
+        (λ closed h. subst (λ (y : Invocation × Answer). HasCause history i y.0 y.1) (sym (one-is (call, answer.SessionExpired x) (c, a) h)) (expired-cause x names closed))
+
+    call-cause : (c : Invocation) (a : Answer) → Contains (apply_call i call o s).answers (c, a) → HasCause history i c a
+    call-cause c a = cases (λ (r : Applied). Contains r.answers (c, a) → HasCause history i c a) (s.destroyed_group.0 == 0) _ _
+        (λ alive h. at (Contains-append_cases (told (supersede call s).ended) (by_session i call o (session_in o) t).answers (c, a) h))
+        (λ dead h. subst (λ (y : Invocation × Answer). HasCause history i y.0 y.1) (sym (one-is (call, answer.GroupDestroyed s.destroyed_group) (c, a) h)) (stands-later place i _ (omega arith) (knows.destroyed dead)))
+      where
+        at : Contains (told (supersede call s).ended) (c, a) ⊎ Contains (by_session i call o (session_in o) t).answers (c, a) → HasCause history i c a
+        at (inl h) = first-told c a h
+        at (inr h) = session-cause (session_in o) refl c a h
+
+    pub entry-cause : (c : Invocation) (a : Answer) → Contains (apply i (entry.Call call o) s).answers (c, a) → HasCause history i c a
+    entry-cause c a = either (λ (r : Applied). Contains r.answers (c, a) → HasCause history i c a) (is_elsewhere o) _ _ (λ h. absurd (no-element (c, a) h)) (call-cause c a)
+
+  -- every entry
+  members-cause : (place : ℕ) (call : Option Invocation) (c : Invocation) (a : Answer) → Contains (members_answer call) (c, a) → HasCause history (place + 1) c a
+  members-cause place None c a h = absurd (no-element (c, a) h)
+  members-cause place (Some call) c a h = subst (λ (y : Invocation × Answer). HasCause history (place + 1) y.0 y.1) (sym (one-is (call, answer.Ok) (c, a) h)) tt
+
+  any-cause : (place : ℕ) (e : Entry) → slice_get history place ≡ Some e → (past : List (Invocation × Answer)) (s : GroupState) → Knows place past s → SessionsAreOwn history → IsOrderlyAt (place + 1) e s → RoundsWithin (2 ^ 62 - 1) s.latches
+      → (c : Invocation) (a : Answer) → Contains (apply (place + 1) e s).answers (c, a) → HasCause history (place + 1) c a
+  any-cause place entry.Empty is past s knows owns ord within c a h = absurd (no-element (c, a) h)
+  any-cause place (entry.Call call o) is past s knows owns ord within c a h = entry-cause place call o is past s knows owns ord within c a h
+  any-cause place (entry.SessionsExpired pairs) is past s knows owns ord within c a h = told-causes place (entry.SessionsExpired pairs) is (place + 1) s (close (place + 1) (unchanged_since s.sessions pairs) s) (acts-expire (place + 1) pairs s) knows.asked c a h
+  any-cause place (entry.WaitsExpired calls) is past s knows owns ord within c a h = told-causes place (entry.WaitsExpired calls) is (place + 1) s (serve_left (for_each time_out calls s)) (acts-time_out (place + 1) calls s) knows.asked c a h
+  any-cause place (entry.Members call plan members) is past s knows owns ord within c a h = members-cause place call c a h
+  any-cause place (entry.Destroy group) is past s knows owns ord within c a h = told-causes place (entry.Destroy group) is (place + 1) (record s { destroyed_group = if s.destroyed_group.0 == 0 then group else s.destroyed_group })
+      (end_all (λ w. true) (λ w. answer.GroupDestroyed group) (record s { destroyed_group = if s.destroyed_group.0 == 0 then group else s.destroyed_group })) (acts-end_all (place + 1) (entry.Destroy group) (λ w. true) (λ w. answer.GroupDestroyed group) (record s { destroyed_group = if s.destroyed_group.0 == 0 then group else s.destroyed_group }) (λ w t. refl)) knows.asked c a h
+  any-cause place (entry.Destroyed group) is past s knows owns ord within c a h = absurd (no-element (c, a) h)
+  any-cause place (entry.Moved group at members) is past s knows owns ord within c a h = absurd (no-element (c, a) h)
+  any-cause place (entry.Left member) is past s knows owns ord within c a h = absurd (no-element (c, a) h)
+
+  within-le : (a b : ℕ) (rows : List (List ℕ × LatchRow)) → a ≤ b → RoundsWithin a rows → RoundsWithin b rows
+  within-le a b rows l h = λ k d m. let x = h k d m in omega arith
+
+  told-later : (i : ℕ) (past : List (Invocation × Answer)) (s : GroupState) → Told i past s → Told (i + 1) past s
+  told-later i past s h = record {
+    waiters = λ w there m. let x = h.waiters w there m in let l = x.0 in (omega arith, x.1);
+    memory = λ x thread row there. let y = h.memory x thread row there in let l = y.0 in (omega arith, y.1);
+  }
+
+  is_of-one : (a b : ClientId) (row : Option SessionRow) → is_of a row ≡ true → is_of b row ≡ true → a ≡ b
+  is_of-one a b None h k = cc
+  is_of-one a b (Some row) h k = sym (same-client row.client a h) ∙ same-client row.client b k
+
+  module _ (place : ℕ) (e : Entry) (is : slice_get history place ≡ Some e) (past : List (Invocation × Answer)) (s : GroupState) (knows : Knows place past s) (owns : SessionsAreOwn history) (ord : IsOrderlyAt (place + 1) e s) (few : place < 2 ^ 62) where
+    abbrev j : ℕ
+    j = place + 1
+
+    abbrev u : GroupState
+    u = (apply (place + 1) e s).state
+
+    within-now : RoundsWithin (2 ^ 62 - 1) s.latches
+    within-now = within-le place (2 ^ 62 - 1) s.latches (omega (arith, few)) knows.rounds
+
+    after : After (place + 1) e s (apply (place + 1) e s).state
+    after = after-apply (place + 1) e s
+
+    grows : Grows (place + 1) s (apply (place + 1) e s).state
+    grows = grows-apply (place + 1) e s within-now
+
+    one : suc place ≡ place + 1
+    one = omega arith
+
+    gone-next : (key : Object) → (is_gone s key ≡ true) ⊎ Destroys e key → (by : Invocation) × StandsBy history j (entry.Call by (op.Destroy key.1 key.0))
+    gone-next key (inl h) = let x = knows.gone key h in (x.0, stands-later place j _ (omega arith) x.1)
+    gone-next key (inr h) = (h.0, stands-as place e is _ h.1)
+
+    destroyed-next : (u.destroyed_group ≡ s.destroyed_group) ⊎ (e ≡ entry.Destroy u.destroyed_group) → (u.destroyed_group.0 == 0) ≡ false → StandsBy history j (entry.Destroy u.destroyed_group)
+    destroyed-next (inl same) h = subst (λ (g : GroupId). StandsBy history j (entry.Destroy g)) (sym same) (stands-later place j _ (omega arith) (knows.destroyed (subst (λ (g : GroupId). (g.0 == 0) ≡ false) same h)))
+    destroyed-next (inr same) h = stands-as place e is _ same
+
+    stay-next : (x : ℕ) (client : ClientId) → (is_open_for s.sessions x client ≡ true) ⊎ IsOver place x → (is_open_for u.sessions x client ≡ true) ⊎ IsOver j x
+    stay-next x client (inl h) = let l = knows.upto x client h in at (after.stay x client (omega (arith, l)) h) where
+      at : (is_open_for u.sessions x client ≡ true) ⊎ Closes e x → (is_open_for u.sessions x client ≡ true) ⊎ IsOver j x
+      at (inl k) = inl k
+      at (inr k) = inr (closes-over place e is x k)
+    stay-next x client (inr h) = inr (over-later place j x (omega arith) h)
+
+    state-now : state_before history (place + 1) ≡ (apply (place + 1) e s).state
+    state-now = subst (λ n. state_after n 1 history empty ≡ (apply (place + 1) e s).state) one (state-next place 1 (place + 1) history e empty (omega arith) is ∙ ap (λ v. (apply (place + 1) e v).state) knows.here)
+
+    sessions-next : (x : ℕ) (client : ClientId) → WasOpenFor history j x client → (is_open_for u.sessions x client ≡ true) ⊎ IsOver j x
+    sessions-next x client h = by (nat_lt h.moment j) refl where
+      at_last : (m : ℕ) → nat_lt m j ≡ false → m ≤ j → m ≡ j
+      at_last m f l = grind (arith, nat_tests)
+
+      at_first : (m : ℕ) → nat_lt m j ≡ true → m ≤ place
+      at_first m f = grind (arith, nat_tests)
+
+      by : (b : Bool) → nat_lt h.moment j ≡ b → (is_open_for u.sessions x client ≡ true) ⊎ IsOver j x
+      by true f = stay-next x client (knows.sessions x client (record { moment = h.moment; before = at_first h.moment f; is_open = h.is_open }))
+      by false f = inl (subst (λ v. is_open_for v.sessions x client ≡ true) state-now (subst (λ m. is_open_for (state_before history m).sessions x client ≡ true) (at_last h.moment f h.before) h.is_open))
+
+    upto-next : SessionsUpTo j u
+    upto-next = after.upto (λ x client h. let l = knows.upto x client h in omega (arith, l))
+
+    memory-next : (x thread : ℕ) (row : MemoryRow) → IsOldRow s (x, thread) row ⊎ IsOwnRow e s (x, thread) row → (y : ℕ) → y ≡ x → y < j → (client : ClientId) → is_open_for u.sessions x client ≡ true
+        → (o : Op) × StandsBy history j (entry.Call (record { client = client; thread = record { 0 = thread }; number = row.number }) o)
+    memory-next x thread row (inl h) y same below client opened = let l : x < j = omega (arith, same, below) in
+        let by = knows.memory x thread h.0 h.1 client (grows.opened x client l opened) in
+        (by.0, stands-later place j _ (omega arith) (subst (λ n. StandsBy history place (entry.Call (record { client = client; thread = record { 0 = thread }; number = n }) by.0)) h.2 by.1))
+    memory-next x thread row (inr h) y same below client opened = let l : x < j = omega (arith, same, below) in
+        let was : is_open_for s.sessions x client ≡ true = grows.opened x client l opened in
+        let mine : is_open_for s.sessions x h.0.client ≡ true = (grows-supersede j h.0 s).opened x h.0.client l h.6 in
+        let own : client ≡ h.0.client = is_of-one client h.0.client (find nat_cmp s.sessions x) was mine in
+        (h.1, subst (λ (c : Invocation). StandsBy history j (entry.Call c h.1)) (λ k. record { client = sym own k; thread = record { 0 = h.4 k }; number = h.5 k }) (stands-as place e is _ h.2))
+
+    told-now : Told (place + 1) (past ++ (apply (place + 1) e s).answers) (apply (place + 1) e s).state
+    told-now = told-apply (place + 1) past e s ord within-now knows.answers
+
+    causes-now : (c : Invocation) (a : Answer) → Contains (apply (place + 1) e s).answers (c, a) → HasCause history (place + 1) c a
+    causes-now = any-cause place e is past s knows owns ord within-now
+
+    pub knows-next : Knows (place + 1) (past ++ (apply (place + 1) e s).answers) (apply (place + 1) e s).state
+    knows-next = record {
+      here = state-now;
+      rounds = subst (λ n. RoundsWithin n u.latches) one (within-apply j place e s knows.rounds);
+      answers = told-later j _ u told-now;
+      caused = λ c a h. caused c a (Contains-append_cases past (apply (place + 1) e s).answers (c, a) h);
+      asked = asked-apply history j e s (get-contains history place e is) knows.asked;
+      gone = λ key h. gone-next key (after.gone key h);
+      destroyed = destroyed-next after.destroyed;
+      sessions = sessions-next;
+      upto = upto-next;
+      memory = λ x thread row there client opened. memory-next x thread row (after.memory (x, thread) row there) x refl (told-now.memory x thread row there).0 client opened;
+    }
+      where
+        caused : (c : Invocation) (a : Answer) → Contains past (c, a) ⊎ Contains (apply (place + 1) e s).answers (c, a) → HasCause history (place + 1) c a
+        caused c a (inl h) = cause-later place (place + 1) c a (omega arith) (knows.caused c a h)
+        caused c a (inr h) = causes-now c a h
+
+  knows-none : Knows 0 [] empty
+  knows-none = record {
+    here = refl;
+    rounds = All-nil (λ (r : LatchRow). r.round ≤ 0);
+    answers = record { waiters = λ w h. absurd (no-element w h); memory = λ x thread row h. absurd (no_row row h) };
+    caused = λ call a h. absurd (no-element (call, a) h);
+    asked = λ w h. absurd (no-element w h);
+    gone = λ key h. absurd (false_true h);
+    destroyed = λ h. absurd (no_true h);
+    sessions = λ x client h. absurd (no_open x client h);
+    upto = λ x client h. absurd (false_true h);
+    memory = λ x thread row h. absurd (no_row row h);
+  }
+    where
+      no_row : (row : MemoryRow) → None ≡ Some row → ⊥
+      no_row row k = cc
+
+      false_true : false ≡ true → ⊥
+      false_true k = cc
+
+      none-open : (m x : ℕ) (client : ClientId) → m ≤ 0 → is_open_for (state_before history m).sessions x client ≡ true → ⊥
+      none-open m x client l h = let e : m ≡ 0 = omega (arith, l) in false_true (subst (λ n. is_open_for (state_before history n).sessions x client ≡ true) e h)
+
+      no_open : (x : ℕ) (client : ClientId) → WasOpenFor history 0 x client → ⊥
+      no_open x client h = none-open h.moment x client h.before h.is_open
+
+  -- what holds at each place
+  module _ (orderly : IsOrderly history) (owns : SessionsAreOwn history) where
+    knows-at : (place : ℕ) → place ≤ length history → (past : List (Invocation × Answer)) × Knows place past (state_before history place)
+    knows-at zero l = ([], knows-none)
+    knows-at (suc n) l = next (knows-at n (omega (arith, l))) (entry-there n history (omega (arith, l))) where
+      entry-there : (n : ℕ) (es : List Entry) → n < length es → (e : Entry) × (slice_get es n ≡ Some e)
+      entry-there n [] l = absurd (omega (arith, l))
+      entry-there zero (e ∷ es) l = (e, refl)
+      entry-there (suc n) (e ∷ es) l = entry-there n es (omega (arith, l))
+
+      few : n < 2 ^ 62
+      few = let f = orderly.few in omega (arith, f, l)
+
+      one-more : n + 1 ≡ suc n
+      one-more = omega arith
+
+      next : ((past : List (Invocation × Answer)) × Knows n past (state_before history n)) → ((e : Entry) × (slice_get history n ≡ Some e)) → (past : List (Invocation × Answer)) × Knows (suc n) past (state_before history (suc n))
+      next k x = let s = state_before history n in
+          let y = knows-next n x.0 x.1 k.0 (state_before history n) k.1 owns (orderly-at n 1 (n + 1) history x.0 empty (omega arith) x.1 orderly.entries) few in
+          (k.0 ++ (apply (n + 1) x.0 (state_before history n)).answers, subst (λ m. Knows m (k.0 ++ (apply (n + 1) x.0 (state_before history n)).answers) (state_before history m)) one-more (subst (Knows (n + 1) (k.0 ++ (apply (n + 1) x.0 (state_before history n)).answers)) (sym y.here) y))
+
+    pub have-causes : AllHaveCauses history
+    have-causes place x call a got there = let r = run-entry place 1 history empty x got in
+        let l = get-in history place r.0 r.1 in
+        let k = knows-at place (omega (arith, l)) in
+        let f = orderly.few in
+        let given : x ≡ apply (place + 1) r.0 (state_before history place) = run-gives place 1 (place + 1) history r.0 empty x (omega arith) r.1 got in
+        causes-now place r.0 r.1 k.0 (state_before history place) k.1 owns (orderly-at place 1 (place + 1) history r.0 empty (omega arith) r.1 orderly.entries) (omega (arith, l, f)) call a
+        (subst (λ (y : Applied). Contains y.answers (call, a)) given there)

@@ -1,5 +1,0 @@
-use Rattle.cp_group_reads.proofs.Outcomes.{looks-are-outcomes}
-use Rattle.cp_group_reads.proofs.lookups.looks_are_outcomes.Goals as goal
-
-pub returns : goal.returns
-returns c = looks-are-outcomes

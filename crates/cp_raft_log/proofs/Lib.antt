@@ -1,3 +1,0 @@
-pub mod Configs
-pub mod OneMore
-pub mod OwnSnapshots

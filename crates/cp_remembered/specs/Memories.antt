@@ -1,0 +1,15 @@
+-- What a group remembers.
+use Rattle.std.specs.Prelude.{ℕ, Bool, false, ◌==◌, Option, Some, None}
+use Rattle.cp_answers.specs.declared.answer.Answer.{Answer}
+use Rattle.cp_group_state.specs.declared.rows.MemoryRow.{MemoryRow}
+use Rattle.cp_group_state.specs.declared.rows.Waiter.{Waiter}
+use Rattle.cp_group_state.specs.Waiters.{Ended}
+
+-- whether there is a row, of the call with this number
+abbrev pub has_number : ℕ → Option MemoryRow → Bool
+has_number number None = false
+has_number number (Some row) = row.number == number
+
+-- the waiter that ended with this answer
+abbrev pub ended_by : Waiter → Answer → Ended
+ended_by w a = record { waiter = w; answer = a }

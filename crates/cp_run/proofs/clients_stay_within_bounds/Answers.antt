@@ -1,5 +1,0 @@
-use Rattle.cp_run.proofs.clients_stay_within_bounds.Goals as goal
-use Rattle.cp_run.proofs.Bounds.{begins, hands_on, after}
-
-pub returns : goal.returns
-returns c = record { begins = begins; hands_on = hands_on; after = after }

@@ -1,5 +1,0 @@
-use Rattle.cp_sizes.proofs.Entries.{older_entries_short}
-use Rattle.cp_sizes.proofs.older_entries_are_short.Goals as goal
-
-pub returns : goal.returns
-returns c = older_entries_short

@@ -1,7 +1,0 @@
-use Rattle.std.proofs.Common.{◌≡◌, ◌-◌, []}
-use Rattle.cp_grammar.specs.Lists.{items_reading}
-use Rattle.cp_spelling.proofs.ItemLoop.{with_front}
-use Rattle.cp_spelling.proofs.lists.take_items.Given as goal
-
-abbrev pub invariant-loop : goal.invariant-loop
-invariant-loop g l = with_front l.items.items (items_reading g.T.Item.item l.items.items (l.count - l.counter) l.rest) ≡ items_reading g.T.Item.item [] l.count l.bytes

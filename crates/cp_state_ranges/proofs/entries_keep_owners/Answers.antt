@@ -1,5 +1,0 @@
-use Rattle.cp_state_ranges.proofs.Owners.{own-apply}
-use Rattle.cp_state_ranges.proofs.entries_keep_owners.Goals as goal
-
-pub returns : goal.returns
-returns c = own-apply

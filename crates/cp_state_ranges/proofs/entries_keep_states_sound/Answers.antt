@@ -1,5 +1,0 @@
-use Rattle.cp_state_ranges.proofs.Sound.{sound-apply}
-use Rattle.cp_state_ranges.proofs.entries_keep_states_sound.Goals as goal
-
-pub returns : goal.returns
-returns c = sound-apply

@@ -1,5 +1,0 @@
-use Rattle.cp_state_ranges.proofs.Counts.{counted-history}
-use Rattle.cp_state_ranges.proofs.histories_are_counted.Goals as goal
-
-pub returns : goal.returns
-returns c = counted-history

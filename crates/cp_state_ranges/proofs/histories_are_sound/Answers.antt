@@ -1,5 +1,0 @@
-use Rattle.cp_state_ranges.proofs.Sound.{sound-history}
-use Rattle.cp_state_ranges.proofs.histories_are_sound.Goals as goal
-
-pub returns : goal.returns
-returns c = sound-history

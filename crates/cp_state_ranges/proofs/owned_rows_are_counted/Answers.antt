@@ -1,5 +1,0 @@
-use Rattle.cp_state_ranges.proofs.Counts.{counted}
-use Rattle.cp_state_ranges.proofs.owned_rows_are_counted.Goals as goal
-
-pub returns : goal.returns
-returns c = counted

@@ -1,5 +1,0 @@
-pub mod Versions
-pub mod Keys
-pub mod Rows
-pub mod RowLaws
-pub mod Lists

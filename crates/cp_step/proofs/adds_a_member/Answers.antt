@@ -1,5 +1,0 @@
-use Rattle.cp_step.proofs.Adding.{ends}
-use Rattle.cp_step.proofs.adds_a_member.Goals as goal
-
-pub returns : goal.returns
-returns c = record { messages = ends.messages; leader = ends.leader; member = ends.member }

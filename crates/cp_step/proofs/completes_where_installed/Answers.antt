@@ -1,5 +1,0 @@
-use Rattle.cp_step.proofs.Completes.{completes_where_installed as law}
-use Rattle.cp_step.proofs.completes_where_installed.Goals as goal
-
-pub returns : goal.returns
-returns c = law

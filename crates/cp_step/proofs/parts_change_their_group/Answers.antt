@@ -1,5 +1,0 @@
-use Rattle.cp_step.proofs.PartLaws.{parts_change_their_group as law}
-use Rattle.cp_step.proofs.parts_change_their_group.Goals as goal
-
-pub returns : goal.returns
-returns c = law

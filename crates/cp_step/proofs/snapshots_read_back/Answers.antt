@@ -1,5 +1,0 @@
-use Rattle.cp_step.proofs.SpellingLaws.{snapshots_read_back as law}
-use Rattle.cp_step.proofs.snapshots_read_back.Goals as goal
-
-pub returns : goal.returns
-returns c = law

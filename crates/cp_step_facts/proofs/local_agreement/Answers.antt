@@ -1,5 +1,0 @@
-use Rattle.cp_step_facts.proofs.Executions.{agrees as law}
-use Rattle.cp_step_facts.proofs.local_agreement.Goals as goal
-
-pub returns : goal.returns
-returns c = law

@@ -1,5 +1,0 @@
-use Rattle.cp_step_facts.proofs.Laws.{stays_sound as law}
-use Rattle.cp_step_facts.proofs.members_stay_sound.Goals as goal
-
-pub returns : goal.returns
-returns c = law

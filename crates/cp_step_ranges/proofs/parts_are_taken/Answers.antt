@@ -1,5 +1,0 @@
-use Rattle.cp_step_ranges.proofs.Laws.{parts_are_taken as law}
-use Rattle.cp_step_ranges.proofs.parts_are_taken.Goals as goal
-
-pub returns : goal.returns
-returns c = law

@@ -1,2 +1,0 @@
-pub mod SignedWords
-pub mod HexWords

@@ -1,2 +1,0 @@
-//! Definitions that several crates cite: lines of text, and when a fault may come. No code.
-#![tactic(auto)]
