@@ -4,8 +4,6 @@
 mod longs;
 mod refs;
 mod table;
-#[cfg(test)]
-mod tests;
 
 pub use longs::Longs;
 pub use refs::Refs;

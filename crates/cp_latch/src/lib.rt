@@ -5,8 +5,6 @@ mod counted;
 mod latch;
 mod latches;
 mod rounds;
-#[cfg(test)]
-mod tests;
 
 pub use counted::Counted;
 pub use latch::Latch;

@@ -7,8 +7,6 @@ mod meet;
 mod outcome;
 mod rows;
 mod session_set;
-#[cfg(test)]
-mod tests;
 
 pub use locks::Locks;
 pub use outcome::{LockError, Released, Taken};

@@ -3,8 +3,6 @@
 
 mod key;
 mod maps;
-#[cfg(test)]
-mod tests;
 
 pub use key::Key;
 pub use maps::Maps;

@@ -3,11 +3,7 @@
 
 mod forget;
 mod gone;
-#[cfg(test)]
-mod gone_tests;
 mod memory;
-#[cfg(test)]
-mod memory_tests;
 
 pub use gone::Gone;
 pub use memory::Memory;

@@ -3,8 +3,6 @@
 
 mod changing;
 mod rows;
-#[cfg(test)]
-mod table_tests;
 
 pub use changing::{PushError, push_row, put_row, rising_rows, write_row};
 pub use rows::{MOST, from_rows};

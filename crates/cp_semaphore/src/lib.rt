@@ -14,8 +14,6 @@ mod semaphores;
 mod serving;
 mod steps;
 mod tables;
-#[cfg(test)]
-mod tests;
 
 pub use keys::{concerned, left_by};
 pub use outcome::SemOutcome;

@@ -11,8 +11,6 @@ mod index;
 mod open;
 mod restore;
 mod sessions;
-#[cfg(test)]
-mod tests;
 
 pub use error::SessionError;
 pub use sessions::Sessions;

@@ -14,8 +14,6 @@ mod reading;
 mod row;
 mod rows;
 mod rules;
-#[cfg(test)]
-mod tests;
 mod version;
 mod writing;
 mod written_holdings;

@@ -6,8 +6,6 @@ mod index;
 mod indexes;
 mod rows;
 mod shelf;
-#[cfg(test)]
-mod tests;
 mod waits;
 
 pub use waits::{RowsError, WaitError, Waits};
