@@ -5,11 +5,12 @@ ghost use Rattle.cp_answers.specs.Refusals.{refusal};
 ghost use Rattle.cp_grammar.specs.Readers.{Tells};
 ghost use Rattle.std.specs.Prelude.{◌≡◌, ◌++◌, List, ℕ, Ok, OnOk, OnErr, IfOk};
 
+use cp_base::limits::MOST_MEMBER;
 use cp_base::{NoMemory, Text};
 use cp_grammar::{
     ReadError, Spelled, Stop, append_index, append_u8, append_u32, take_index, take_u8, take_u32,
 };
-use cp_op_values::{MOST_MEMBER, append_numbered};
+use cp_op_values::append_numbered;
 use std::alloc::Global;
 
 /// Why a member refuses a request. A refusal is no answer, and comes without an entry.
@@ -166,7 +167,8 @@ impl Refusal {
 
 /// No spelling of a refusal begins another, so what was written is read again and the rest is left.
 pub fn no_refusal_begins_another()
-    ensures { (x y : Refusal) (a b : List ℕ) → refusal.Fits x → refusal.Fits y → refusal.spelling x ++ a ≡ refusal.spelling y ++ b → (x ≡ y) × (a ≡ b) }
+    ensures { (x y : Refusal) (a b : List ℕ) → refusal.Fits x → refusal.Fits y → refusal.spelling x ++ a
+        ≡ refusal.spelling y ++ b → (x ≡ y) × (a ≡ b) }
 {
     cp_grammar::no_spelling_begins_another::<Refusal>()
 }

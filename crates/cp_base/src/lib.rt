@@ -5,11 +5,10 @@ mod decimal;
 mod hexadecimal;
 mod identifier;
 mod items;
+pub mod limits;
 mod memory;
 mod name;
 mod split;
-#[cfg(test)]
-mod tests;
 mod text;
 
 pub use decimal::{read_decimal, read_signed, write_decimal, write_signed};

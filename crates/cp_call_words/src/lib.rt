@@ -16,10 +16,6 @@ mod object;
 mod reading;
 mod reference;
 mod semaphore;
-#[cfg(test)]
-mod tests;
-#[cfg(test)]
-mod value_words_tests;
 mod writing;
 
 pub use context::Context;

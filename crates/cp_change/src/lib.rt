@@ -5,9 +5,8 @@ ghost use Rattle.cp_change.specs.Laws.{ChangesLeaveMembers};
 
 mod making;
 mod refusing;
-#[cfg(test)]
-mod tests;
 
+pub use cp_rules::Change;
 pub use making::{changed, changed_config};
 pub use refusing::may_change;
 

@@ -9,8 +9,6 @@ mod going;
 mod holds;
 mod output;
 mod sessions;
-#[cfg(test)]
-mod tests;
 mod threads;
 mod ticking;
 

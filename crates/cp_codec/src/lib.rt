@@ -5,8 +5,6 @@
 mod error;
 mod exact;
 mod reading;
-#[cfg(test)]
-mod tests;
 mod writing;
 
 pub use error::{FieldError, NoMemory};

@@ -10,6 +10,3 @@ mod record;
 
 pub use disk::{CrashDisk, Disk, Failed, Fault, NoMemory};
 pub use memory::MemoryDisk;
-
-#[cfg(test)]
-mod tests;

@@ -10,15 +10,13 @@ mod leading;
 mod members;
 mod replying;
 mod role;
-#[cfg(test)]
-mod tests;
 mod voting;
 mod waiting;
 
 pub use ballot::{adopted, is_greater, to_write};
 pub use counting::{count_vote, has_quorum};
 pub use leading::{new_peer, new_peers, no_votes};
-pub use members::{is_member, others};
+pub use members::is_member;
 pub use replying::{VoteReplied, pre_vote_replied, vote_replied};
 pub use role::{is_candidate, is_leader, is_pre_candidate};
 pub use voting::{VoteAnswer, Would, grants_vote, hears_no_leader, is_up_to_date, pre_vote, vote};

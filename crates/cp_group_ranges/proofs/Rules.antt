@@ -4,6 +4,7 @@ use Rattle.std.specs.Prelude.{◌==◌}
 use Rattle.std.specs.List.{filter, AllByRecursion}
 use Rattle.std.specs.Ordering.{nat_cmp}
 use Rattle.cp_base.specs.declared.identifier.Invocation.{Invocation}
+use Rattle.cp_base.proofs.Tests.{same_some, no_true}
 use Rattle.cp_grammar.specs.Common as spelled
 use Rattle.cp_grammar.specs.Common.{index, invocation}
 use Rattle.cp_op_values.specs.declared.kind.Kind.{Kind}
@@ -28,7 +29,7 @@ use Rattle.cp_group_state.specs.declared.rows.SessionRow.{SessionRow}
 use Rattle.cp_group_state.specs.Rows.{Object, find, put, has_room, most, object_cmp}
 use Rattle.cp_group_state.specs.Waiters.{first, same_client, waits_on, first_on}
 use Rattle.cp_group_state.specs.Sessions.{session_of, beaten}
-use Rattle.cp_group_state.specs.Locks.{Taken, Fence, Limit, Full, Busy, Released, Freed, Kept, NotOwner, acquired, released_by}
+use Rattle.cp_group_state.specs.Locks.{Taken, Fence, Limit, Busy, Released, Freed, Kept, NotOwner, acquired, released_by}
 use Rattle.cp_group_state.specs.Semaphores.{SemOutcome, sem_step}
 use Rattle.cp_group_state.specs.Semaphores as semaphore
 use Rattle.cp_group_state.specs.Latches.{LatchOutcome, latch_step}
@@ -44,8 +45,6 @@ use Rattle.cp_group_state.specs.LatchRules.{latch_wait, on_latch, latch_rule}
 use Rattle.cp_group_state.specs.SessionRules.{opened, beat, session_rule}
 use Rattle.cp_group_state.specs.Destroying.{object_of, names_gone}
 use Rattle.cp_group_state.specs.Apply.{rule, outcome}
-use Rattle.cp_group_state.proofs.Keyed.{no_true}
-use Rattle.cp_group_state.proofs.Grows.{same_some}
 use Rattle.cp_group_state.proofs.Walk.{cases, either}
 use Rattle.cp_group_ranges.specs.Rows.{SessionFits, WaiterFits, is_semaphore, can_wait}
 use Rattle.cp_group_ranges.specs.States.{HasSemaphore}
@@ -81,11 +80,11 @@ good-wait call w (wish.Within ms) s f e there h = either (GoodOutcome call) (ms 
 
 -- ---- locks
 
-good-taken : (call : Invocation) (w : Waiter) (x : Wish) (taken : Taken) (s : GroupState) → TakenFits taken → WaiterFits w → w.call ≡ call → HasSemaphore s.semaphores.rows w → Good s → GoodOutcome call (on_taken w x taken s)
-good-taken call w x (Fence n) s t f e there h = good-answered call (answer.Fence n) s (fits_fence n t) h
-good-taken call w x (Limit n) s t f e there h = good-answered call (answer.LimitReached n) s (fits_limit n t) h
-good-taken call w x Full s t f e there h = good-answered call (answer.TableFull most) s (fits_table_full most (omega arith)) h
-good-taken call w x Busy s t f e there h = good-wait call w x s f e there h
+good-taken : (call : Invocation) (w : Waiter) (x : Wish) (taken : Option Taken) (s : GroupState) → TakenFits taken → WaiterFits w → w.call ≡ call → HasSemaphore s.semaphores.rows w → Good s → GoodOutcome call (on_taken w x taken s)
+good-taken call w x (Some (Fence n)) s t f e there h = good-answered call (answer.Fence n) s (fits_fence n t) h
+good-taken call w x (Some (Limit n)) s t f e there h = good-answered call (answer.LimitReached n) s (fits_limit n t) h
+good-taken call w x None s t f e there h = good-answered call (answer.TableFull most) s (fits_table_full most (omega arith)) h
+good-taken call w x (Some Busy) s t f e there h = good-wait call w x s f e there h
 
 good-released : (i : ℕ) (call : Invocation) (n : List ℕ) (released : Released) (s : GroupState) → index.Fits i → (released ≡ Freed → Handed s.locks n) → Good s → GoodOutcome call (on_released i n released s)
 good-released i call n Freed s f there h = good-answered_with call answer.Ok _ fits_ok (good-hand_over i n s f (there refl) h)
@@ -129,7 +128,7 @@ good-sem_wait call key (sem.Reduce session n) s c f k p there h = good-answered 
 good-on_sem : (call : Invocation) (key : Object) (waits : Outcome) (r : SemOutcome) (s : GroupState) → SemSays r → (r ≡ semaphore.Wants → GoodOutcome call waits) → Good s → GoodOutcome call (on_sem key waits r s)
 good-on_sem call key waits (semaphore.Done a) s f w h = good-answered call a s f h
 good-on_sem call key waits semaphore.Wants s f w h = w refl
-good-on_sem call key waits (semaphore.Served a) s f w h = good-answered_with call a _ f (good-serve key s h)
+good-on_sem call key waits (semaphore.Served a available) s f w h = good-answered_with call a _ f (good-serve key s h)
 
 middle : (a b c : Bool) → (a && (b && c)) ≡ true → b ≡ true
 middle true true c e = refl

@@ -1,10 +1,10 @@
 -- An answer in the memory was told before.
-use Rattle.std.proofs.Common.{is_some, ◌≡◌, ℕ, ◌-◌, ◌^◌, ◌<◌, ◌⊎◌, inl, inr, Bool, true, false, not, List, [], ◌∷◌, ◌++◌, Some, None, Option, refl, ap, sym, ◌∙◌, subst, arith, if◌then◌else◌, append_assoc}
+use Rattle.std.proofs.Common.{is_some, ◌≡◌, ℕ, ◌-◌, ◌^◌, ◌<◌, ◌⊎◌, inl, inr, Bool, true, false, not, List, [], ◌∷◌, ◌++◌, Some, None, Option, refl, ap, sym, ◌∙◌, subst, if◌then◌else◌, append_assoc}
 use Rattle.std.specs.Prelude.{◌==◌, nat_lt, All, Contains, length}
-use Rattle.std.proofs.lemmas.Bool.Decides.{nat_tests}
 use Rattle.std.proofs.lemmas.List.Elements.{Contains-append_cases, Contains-append_left, Contains-append_right, Contains-push, Contains-push_cases, All-head, All-tail}
 use Rattle.std.specs.Ordering.{nat_cmp}
 use Rattle.std.specs.BTreeMap.{is_at}
+use Rattle.std.proofs.lemmas.Option.{none-some}
 use Rattle.cp_op_values.specs.declared.kind.Kind.{Kind}
 use Rattle.cp_op_values.specs.declared.kind.Kind.TheVariants as kind
 use Rattle.cp_base.specs.declared.identifier.Invocation.{Invocation}
@@ -25,11 +25,12 @@ use Rattle.cp_ops.specs.declared.op.Op.TheVariants as op
 use Rattle.cp_ops.specs.declared.entry.Entry.{Entry}
 use Rattle.cp_ops.specs.declared.entry.Entry.TheVariants as entry
 use Rattle.cp_base.specs.declared.identifier.ClientId.{ClientId}
+use Rattle.cp_base.proofs.Tests.{same_some, same_number}
 use Rattle.cp_group_state.specs.Rows.{find, holder_cmp, object_cmp, most, has_room}
 use Rattle.cp_group_state.specs.Waiters.{Waiter, Ended, stands}
 use Rattle.cp_group_state.specs.Memory.{MemoryRow, remember, note, note_at, note_all, has_memory}
 use Rattle.cp_group_state.specs.Sessions.{SessionRow, is_of, is_open_for, is_among, session_of, unchanged_since}
-use Rattle.cp_group_state.specs.Locks.{Taken, Fence, Limit, Full, Busy, Released, Freed, Kept, NotOwner}
+use Rattle.cp_group_state.specs.Locks.{Taken, Fence, Limit, Busy, Released, Freed, Kept, NotOwner}
 use Rattle.cp_group_state.specs.Semaphores.{sem_step, SemOutcome}
 use Rattle.cp_group_state.specs.Semaphores as semaphore
 use Rattle.cp_group_state.specs.Latches.{LatchOutcome, latch_step}
@@ -48,7 +49,7 @@ use Rattle.cp_group_state.specs.Destroying.{names_gone, object_of, add_gone, dro
 use Rattle.cp_group_state.specs.History.{IsBelow, IsOrderlyAt}
 use Rattle.cp_group_state.proofs.Keyed.{equal_is, find-put_same, find-put_other, find-filter_kept, find-filter_gone, holder_key, same-client}
 use Rattle.cp_group_state.proofs.Walk.{All-closing, cases, either, Closed, walk_on_latch, walk_supersede, walk_outcome, walk_close, walk_time_out, walk_end_all}
-use Rattle.cp_group_state.proofs.Grows.{Grows, same_some, opens-opened, beats-opened, forget-opened}
+use Rattle.cp_group_state.proofs.Grows.{Grows, opens-opened, beats-opened, forget-opened}
 use Rattle.cp_group_state.proofs.Steps.{grows-outcome, RoundsWithin, within-supersede}
 use Rattle.cp_group_state.proofs.Established.{fewer_closed}
 
@@ -72,9 +73,6 @@ told_more i past more s f h = record { waiters = h.waiters; memory = λ session 
 memory_more : (i : ℕ) (past : List (Invocation × Answer)) (added : Invocation × Answer) (sessions : List (ℕ × SessionRow)) (rows : List ((ℕ × ℕ) × MemoryRow)) → MemoryTold i past sessions rows → MemoryTold i (past ++ added ∷ []) sessions rows
 memory_more i past added sessions rows h session thread row there = let x = h session thread row there in (x.0, λ a is client o. Contains-append_left past (added ∷ []) _ (x.1 a is client o))
 
-test_same : (a b : ℕ) → (a == b) ≡ true → a ≡ b
-test_same a b h = grind (arith, nat_tests)
-
 note_at-told : (i : ℕ) (past : List (Invocation × Answer)) (sessions : List (ℕ × SessionRow)) (rows : List ((ℕ × ℕ) × MemoryRow)) (e : Ended) (o : Option MemoryRow) → find holder_cmp rows (e.waiter.session, e.waiter.call.thread.0) ≡ o
     → ((client : ClientId) → is_open_for sessions e.waiter.session client ≡ true → client ≡ e.waiter.call.client) → MemoryTold i past sessions rows → MemoryTold i (past ++ (e.waiter.call, e.answer) ∷ []) sessions (note_at rows e o)
 note_at-told i past sessions rows e None is own h = memory_more i past _ sessions rows h
@@ -93,7 +91,7 @@ note_at-told i past sessions rows e (Some old) is own h = cases (MemoryTold i (p
           rw (← s_is) old_told.0,
           λ a is client o. let same : client ≡ e.waiter.call.client = own client (subst (λ y. is_open_for sessions y client ≡ true) (sym s_is) o) in
               let a_is : e.answer ≡ a = same_some (ap (λ (r : MemoryRow). r.answer) row_is ∙ is) in
-              let n_is : e.waiter.call.number ≡ row.number = sym (test_same old.number e.waiter.call.number n) ∙ ap (λ (r : MemoryRow). r.number) row_is in
+              let n_is : e.waiter.call.number ≡ row.number = sym (same_number old.number e.waiter.call.number n) ∙ ap (λ (r : MemoryRow). r.number) row_is in
               let whole : (e.waiter.call, e.answer) ≡ (record { client = client; thread = record { 0 = thread }; number = row.number }, a) = λ j. (record { client = sym same j; thread = record { 0 = t_is j }; number = n_is j }, a_is j) in
               subst (λ y. Contains (past ++ (e.waiter.call, e.answer) ∷ []) y) whole (Contains-push past (e.waiter.call, e.answer)),
         )
@@ -195,11 +193,11 @@ own-wait : (call : Invocation) (so : Option ℕ) (w : Waiter) (x : Wish) (s : Gr
 own-wait call so w wish.NoLimit s c h = (c, h)
 own-wait call so w (wish.Within ms) s c h = either (λ (r : Outcome). IsOwnWait call so r.reply) (ms == 0) _ _ tt (c, h)
 
-own-taken : (call : Invocation) (so : Option ℕ) (w : Waiter) (x : Wish) (t : Taken) (s : GroupState) → w.call ≡ call → so ≡ memory_of w → IsOwnWait call so (on_taken w x t s).reply
-own-taken call so w x (Fence f) s c h = tt
-own-taken call so w x (Limit n) s c h = tt
-own-taken call so w x Full s c h = tt
-own-taken call so w x Busy s c h = own-wait call so w x s c h
+own-taken : (call : Invocation) (so : Option ℕ) (w : Waiter) (x : Wish) (t : Option Taken) (s : GroupState) → w.call ≡ call → so ≡ memory_of w → IsOwnWait call so (on_taken w x t s).reply
+own-taken call so w x (Some (Fence f)) s c h = tt
+own-taken call so w x (Some (Limit n)) s c h = tt
+own-taken call so w x None s c h = tt
+own-taken call so w x (Some Busy) s c h = own-wait call so w x s c h
 
 own-released : (i : ℕ) (call : Invocation) (so : Option ℕ) (name : List ℕ) (r : Released) (s : GroupState) → IsOwnWait call so (on_released i name r s).reply
 own-released i call so name Freed s = tt
@@ -223,7 +221,7 @@ own-sem_wait call so key (sem.Reduce session n) s h = tt
 own-on_sem : (call : Invocation) (so : Option ℕ) (key : List ℕ × Kind) (l : SemOp) (r : SemOutcome) (s t : GroupState) → ((session n : ℕ) (x : Wish) → l ≡ sem.Acquire session n x → so ≡ (if has_memory key.1 then Some session else None)) → IsOwnWait call so (on_sem key (sem_wait call key l s) r t).reply
 own-on_sem call so key l (semaphore.Done a) s t h = tt
 own-on_sem call so key l semaphore.Wants s t h = own-sem_wait call so key l s h
-own-on_sem call so key l (semaphore.Served a) s t h = tt
+own-on_sem call so key l (semaphore.Served a available) s t h = tt
 
 own-sem : (call : Invocation) (so : Option ℕ) (key : List ℕ × Kind) (l : SemOp) (s : GroupState) → ((session n : ℕ) (x : Wish) → l ≡ sem.Acquire session n x → so ≡ (if has_memory key.1 then Some session else None)) → IsOwnWait call so (sem_rule call key l s).reply
 own-sem call so key l s h = either (λ (r : Outcome). IsOwnWait call so r.reply) (is_behind key l s) _ _ (own-sem_wait call so key l s h) (own-on_sem call so key l (sem_step key l s.semaphores).outcome s (record s { semaphores = (sem_step key l s.semaphores).after }) h)
@@ -324,11 +322,8 @@ answer-told i past so call a c own h = told-remembered i (past ++ (call, a) ∷ 
     (λ b e. subst (λ y. Contains (past ++ (call, a) ∷ told c.ended) (call, y)) (same_some e) (Contains-here past (call, a) (told c.ended)))
     (told_more i (past ++ told c.ended) (past ++ (call, a) ∷ told c.ended) c.state (λ x y. Contains-among past (call, a) (told c.ended) x y) h)
 
-none_some : {X : Type 0} (x : X) → None ≡ Some x → ⊥
-none_some x e = cc
-
 own-waiter : (i : ℕ) (so : Option ℕ) (call : Invocation) (w : Waiter) (s : GroupState) → IsOwnSession i s.sessions call so → IsOwnWait call so (Waits w) → IsOwnWaiter i s.sessions w
-own-waiter i None call w s own x m = absurd (none_some w.session (memory-session w None x.1 m))
+own-waiter i None call w s own x m = absurd (none-some w.session (memory-session w None x.1 m))
 own-waiter i (Some session) call w s own x m = let same : session ≡ w.session = same_some (memory-session w (Some session) x.1 m) in
     (rw (← same) own.0, λ client o. own.1 client (subst (λ y. is_open_for s.sessions y client ≡ true) (sym same) o) ∙ ap (λ (c : Invocation). c.client) (sym x.0))
 
@@ -336,7 +331,7 @@ wait-told : (i : ℕ) (past : List (Invocation × Answer)) (so : Option ℕ) (ca
     → Told i past s → Told i (past ++ (settle_wait so call w s).answers) (settle_wait so call w s).state
 wait-told i past so call w s own x h = either (λ (r : Applied). Told i (past ++ r.answers) r.state) (stands call s.waiters) _ _ (told_end i past s h)
     (either (λ (r : Applied). Told i (past ++ r.answers) r.state) (nat_lt (length s.waiters) most) _ _
-    (told_end i past (remembered so call None (join w s)) (told-remembered i past so call None (join w s) (own-join so own) (λ a e. absurd (none_some a e)) (told-join i past w s (own-waiter i so call w s own x) h)))
+    (told_end i past (remembered so call None (join w s)) (told-remembered i past so call None (join w s) (own-join so own) (λ a e. absurd (none-some a e)) (told-join i past w s (own-waiter i so call w s own x) h)))
     (answer-told i past so call (answer.TableFull most) (stay s) own (told_end i past s h)))
   where
     own-join : (so : Option ℕ) → IsOwnSession i s.sessions call so → IsOwnSession i (join w s).sessions call so

@@ -13,6 +13,3 @@ pub use memory::{MemorySink, MemorySource};
 pub use reading::{MOST, ReadEnd, read_all};
 pub use traits::{Failed, Fault, NoMemory, Sink, Source};
 pub use writing::write_all;
-
-#[cfg(test)]
-mod tests;

@@ -12,6 +12,3 @@ mod steps;
 pub use error::JournalError;
 pub use journal::Journal;
 pub use own::own_files_spell_records;
-
-#[cfg(test)]
-mod tests;

@@ -12,8 +12,6 @@ mod recovery;
 mod row;
 mod rows;
 mod store;
-#[cfg(test)]
-mod tests;
 mod writing;
 
 pub use error::StoreError;

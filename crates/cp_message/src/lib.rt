@@ -9,18 +9,17 @@ mod message;
 mod request;
 mod snapshot;
 mod task;
-#[cfg(test)]
-mod tests;
 mod text;
 mod vote;
 
 pub use append::{Append, AppendReply};
 pub use body::Body;
 pub use confirm::{Confirm, Confirmed};
-pub use entries::{LogEntry, MOST_ENTRIES, MOST_ENTRY, OLDER_MOST_ENTRY, take_copy, take_entries};
+pub use cp_grammar::ReadError;
+pub use entries::{LogEntry, take_copy, take_entries};
 pub use message::{Message, no_message_begins_another};
 pub use request::{Reply, Request};
-pub use snapshot::{Chunk, MOST_CHUNK, SnapshotReply};
+pub use snapshot::{Chunk, SnapshotReply};
 pub use task::{Task, TaskReply};
 pub use text::{append_members_text, append_numbers_text, append_yes_text};
 pub use vote::{VoteReply, VoteRequest};

@@ -31,7 +31,7 @@ module _ (seat : Seat) (p : PersistentState) (v : VolatileState) (s : LocalStep)
   leads l =
       let at : is_leader between.role ≡ true = ap (λ (z : VolatileState). is_leader z.role) does.state ∙ l in
       let who : members_after p did.part ≡ members (after_part s.part p) = ap (members_after p) does.part ∙ sym (leaves.told l) in
-      let answered : last.answered.items ≡ filter (is_ready seat.me (members_after p did.part) between.reads between.commit) between.reads.looks = rw at at settled.answered in
+      let answered : last.looks.items ≡ filter (is_ready seat.me (members_after p did.part) between.reads between.commit) between.reads.looks = rw at at settled.answered in
       let lost : last.lost.items ≡ [] = rw at at settled.lost in
       let state : after ≡ without_ready seat.me (members_after p did.part) between = rw at at settled.state in
       let same_answered : filter (is_ready seat.me (members_after p did.part) between.reads between.commit) between.reads.looks ≡ filter (is_ready seat.me (members (after_part s.part p)) s.state.reads s.state.commit) s.state.reads.looks =
@@ -51,7 +51,7 @@ module _ (seat : Seat) (p : PersistentState) (v : VolatileState) (s : LocalStep)
   follows : is_leader s.state.role ≡ false → Decides seat (settles seat.me p v s) did after first last
   follows l =
       let at : is_leader between.role ≡ false = ap (λ (z : VolatileState). is_leader z.role) does.state ∙ l in
-      let answered : last.answered.items ≡ [] = rw at at settled.answered in
+      let answered : last.looks.items ≡ [] = rw at at settled.answered in
       let lost : last.lost.items ≡ between.reads.looks = rw at at settled.lost in
       let state : after ≡ record between { reads = no_reads } = rw at at settled.state in
       rw l (record {

@@ -101,7 +101,7 @@ wrote_so seat (Some x) = refl
 
 -- What `tell` says of a step that was decided, which had no messages before, is what a step hands over.
 pub record Tells (event : RaftEvent) (v : VolatileState) (did : Did) (now : VolatileState) (made after : RaftOut) : Type 0 where
-  pub kept : (after.messages.items ≡ made.messages.items) × ((after.answered.items ≡ made.answered.items) × (after.lost.items ≡ made.lost.items))
+  pub kept : (after.messages.items ≡ made.messages.items) × ((after.looks.items ≡ made.looks.items) × (after.lost.items ≡ made.lost.items))
   pub commit : after.commit ≡ now.commit
   pub stepped_down : after.stepped_down ≡ is_leader v.role && not (is_leader now.role)
   pub took_office : after.took_office ≡ not (is_leader v.role) && is_leader now.role
@@ -117,7 +117,7 @@ told seat v event e s did now before made after is clear d t = record {
   took_office = t.took_office ∙ ap (λ (n : VolatileState). not (is_leader v.role) && is_leader n.role) d.state;
   installed = t.installed e s.part seat.group is d.part;
   wrote = t.wrote ∙ ap is_some d.part ∙ wrote_so seat s.part;
-  answered = t.kept.1.0 ∙ d.answered;
+  looks = t.kept.1.0 ∙ d.answered;
   lost = t.kept.1.1 ∙ d.lost;
 }
 

@@ -15,5 +15,5 @@ pub record Decides (seat : Seat) (s : LocalStep) (did : Did) (now : VolatileStat
   pub outcome : did.outcome ≡ s.outcome
   pub state : now ≡ s.state
   pub sends : after.messages.items ≡ before.messages.items ++ messages_of seat s.sends
-  pub answered : after.answered.items ≡ s.answered
+  pub answered : after.looks.items ≡ s.answered
   pub lost : after.lost.items ≡ s.lost

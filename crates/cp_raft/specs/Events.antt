@@ -12,4 +12,4 @@ event_of (event.Tick now may_write expiry snapshot) = Some (Tick now may_write e
 event_of (event.Got message) = option_map (Got message.from) (body_in message.body)
 event_of (event.Propose entry) = Some (Propose entry)
 event_of (event.Change change plan call) = Some (ChangeMembers change plan call)
-event_of (event.Read call attempt op) = Some (Read call attempt op)
+event_of (event.Look call attempt op) = Some (Read call attempt op)

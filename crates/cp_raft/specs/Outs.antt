@@ -15,7 +15,7 @@ pub record IsUntouched (before after : RaftOut) : Type 0 where
   pub took_office : after.took_office ≡ before.took_office
   pub installed : after.installed ≡ before.installed
   pub wrote : after.wrote ≡ before.wrote
-  pub answered : after.answered.items ≡ before.answered.items
+  pub looks : after.looks.items ≡ before.looks.items
   pub lost : after.lost.items ≡ before.lost.items
 
 -- a snapshot part that another's chunk completed
@@ -37,5 +37,5 @@ pub record IsTold (seat : Seat) (v : VolatileState) (event : Event) (s : LocalSt
   pub took_office : after.took_office ≡ not (is_leader v.role) && is_leader s.state.role
   pub installed : after.installed ≡ is_installed event s.part
   pub wrote : after.wrote ≡ is_some s.part
-  pub answered : after.answered.items ≡ s.answered
+  pub looks : after.looks.items ≡ s.answered
   pub lost : after.lost.items ≡ s.lost

@@ -39,6 +39,6 @@ members_after p part = (config_or (brought_by (last p + 1) part) (configuration 
 
 -- One that leads, with these members, answers the reads that are ready; who does not lead keeps none.
 pub record Settles (me : ℕ) (members : List ℕ) (before after : VolatileState) (out : RaftOut) : Type 0 where
-  pub answered : out.answered.items ≡ (if is_leader before.role then filter (is_ready me members before.reads before.commit) before.reads.looks else [])
+  pub answered : out.looks.items ≡ (if is_leader before.role then filter (is_ready me members before.reads before.commit) before.reads.looks else [])
   pub lost : out.lost.items ≡ (if is_leader before.role then [] else before.reads.looks)
   pub state : after ≡ (if is_leader before.role then without_ready me members before else record before { reads = no_reads })

@@ -58,7 +58,7 @@ fn rule<G: Group>(
         RaftEvent::Change(change, plan, call) => {
             on_change(alloc, stored, seat, change, *plan, call, state, out)
         }
-        RaftEvent::Read(call, attempt, op) => {
+        RaftEvent::Look(call, attempt, op) => {
             on_read(
                 alloc,
                 stored,
@@ -88,10 +88,10 @@ fn settle<G: Group>(
     ensures frugal { (is_leader state.old.role ≡ true → (has_entries did.now.part ≡ false) × NoneReady seat.me (G.stored stored.now) state.old) → IsOk result }
 {
     if is_leader(state.role()) {
-        out.answered = take_ready(alloc, stored, seat, &did.part, state)?;
+        out.looks = take_ready(alloc, stored, seat, &did.part, state)?;
         out.lost = Vec::new(alloc);
     } else {
-        out.answered = Vec::new(alloc);
+        out.looks = Vec::new(alloc);
         out.lost = state.lose_reads(alloc);
     }
     Ok(())

@@ -24,5 +24,5 @@ pub enum RaftEvent {
     /// A change of members, with the number of the plan that it follows, or 0, and the call that asked for it.
     Change(Change, u64, Option<Invocation>),
     /// A call that reads, its attempt, and what it reads.
-    Read(Invocation, u64, Items<u8>),
+    Look(Invocation, u64, Items<u8>),
 }

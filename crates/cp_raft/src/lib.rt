@@ -14,6 +14,9 @@ mod stored;
 mod ticking;
 
 pub use coming::what_has_a_spelling_is_in_range;
+pub use cp_parts::Down;
+pub use cp_raft_state::Look;
+pub use cp_rules::{Change, Outcome};
 pub use event::RaftEvent;
 pub use out::RaftOut;
 pub use raft::Raft;

@@ -19,7 +19,7 @@ pub struct RaftOut {
     pub installed: bool,
     pub wrote: bool,
     /// The reads that can be answered after the step.
-    pub answered: Vec<Look>,
+    pub looks: Vec<Look>,
     /// The reads that were lost in the step.
     pub lost: Vec<Look>,
 }
@@ -31,7 +31,7 @@ impl RaftOut {
         ensures messages { result.messages.items ≡ [] }
         ensures commit { result.commit ≡ 0 }
         ensures flags { (result.stepped_down ≡ false) × (result.took_office ≡ false) × (result.installed ≡ false) × (result.wrote ≡ false) }
-        ensures reads { (result.answered.items ≡ []) × (result.lost.items ≡ []) }
+        ensures reads { (result.looks.items ≡ []) × (result.lost.items ≡ []) }
     {
         RaftOut {
             messages: Vec::new(alloc),
@@ -40,7 +40,7 @@ impl RaftOut {
             took_office: false,
             installed: false,
             wrote: false,
-            answered: Vec::new(alloc),
+            looks: Vec::new(alloc),
             lost: Vec::new(alloc),
         }
     }

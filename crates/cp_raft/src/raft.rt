@@ -106,16 +106,16 @@ fn is_installed(event: &RaftEvent, part: &Option<Part>) -> bool
 
 /// Hands nothing over.
 fn give_up(out: &mut RaftOut)
-    ensures { (out.new.messages.items ≡ []) × ((out.new.answered.items ≡ []) × (out.new.lost.items ≡ [])) }
+    ensures { (out.new.messages.items ≡ []) × ((out.new.looks.items ≡ []) × (out.new.lost.items ≡ [])) }
 {
     out.messages.clear();
-    out.answered.clear();
+    out.looks.clear();
     out.lost.clear();
 }
 
 /// Says what a step did.
 fn tell(event: &RaftEvent, before: Role, part: &Option<Part>, state: &Volatile, out: &mut RaftOut)
-    ensures kept { (out.new.messages.items ≡ out.old.messages.items) × ((out.new.answered.items ≡ out.old.answered.items) × (out.new.lost.items ≡ out.old.lost.items)) }
+    ensures kept { (out.new.messages.items ≡ out.old.messages.items) × ((out.new.looks.items ≡ out.old.looks.items) × (out.new.lost.items ≡ out.old.lost.items)) }
     ensures commit { out.new.commit ≡ state.now.commit }
     ensures stepped_down { out.new.stepped_down ≡ is_leader before && not (is_leader state.now.role) }
     ensures took_office { out.new.took_office ≡ not (is_leader before) && is_leader state.now.role }
@@ -222,7 +222,7 @@ impl Raft {
         ensures stays { (e : Event) → event_of event.now ≡ Some e → OnOk result (MayGoOn (held_by store.new) (seat_of self.new) (state_of self.new)) }
 
         // Where it is down nothing is handed over, and the store has what it had.
-        ensures nothing_sent { OnErr result ((out.new.messages.items ≡ []) × ((out.new.answered.items ≡ []) × (out.new.lost.items ≡ []))) }
+        ensures nothing_sent { OnErr result ((out.new.messages.items ≡ []) × ((out.new.looks.items ≡ []) × (out.new.lost.items ≡ []))) }
         ensures nothing_held { OnErr result (held_by store.new ≡ held_by store.old) }
         ensures cause { IfErr result (StepCause (D.faults (disk_of store.old)) (D.faults (disk_of store.new))) }
         ensures later { (D.faults (disk_of store.old) ≤ D.faults (disk_of store.new)) × (D.starved (disk_of store.old) ≤ D.starved (disk_of store.new)) }

@@ -13,8 +13,6 @@ mod following;
 mod replying;
 mod requesting;
 mod sending;
-#[cfg(test)]
-mod tests;
 
 pub use batching::batch;
 pub use by_index::Log;

@@ -7,10 +7,9 @@ mod fronts;
 mod header;
 mod laws;
 mod reading;
-#[cfg(test)]
-mod tests;
 mod writing;
 
+pub use cp_events::{Event, Line, Schedule};
 pub use laws::{
     a_schedule_has_no_fault, a_text_spells_one_schedule, lines_are_numbered, members_are_not_built,
 };

@@ -8,8 +8,6 @@ mod answering;
 mod assembler;
 mod chunks;
 mod joining;
-#[cfg(test)]
-mod tests;
 
 pub use answering::{Taken, take_chunk, writes_own};
 pub use assembler::{Assembler, Progress};

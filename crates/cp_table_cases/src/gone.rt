@@ -1,16 +1,8 @@
 //! Calls of the list of destroyed objects.
 use crate::end::End;
-use crate::one_row::one_row;
-use crate::shown::{show, show_flag, show_number};
+use crate::shown::{show_flag, show_number};
 use crate::words::Words;
 use cp_remembered::Gone;
-
-fn from_row(gone: &mut Gone, words: &mut Words, out: &mut Vec<u8>) -> Result<(), End> {
-    let kind = words.kind()?;
-    let rows = one_row(words.alloc(), (words.name()?, kind), ())?;
-    *gone = Gone::from_rows(words.alloc(), rows)?;
-    show(b"ok", out)
-}
 
 fn is_gone(gone: &Gone, words: &mut Words, out: &mut Vec<u8>) -> Result<(), End> {
     let kind = words.kind()?;
@@ -25,7 +17,6 @@ fn add(gone: &mut Gone, words: &mut Words, out: &mut Vec<u8>) -> Result<(), End>
 /// Makes the call that words spell, and shows its answer.
 pub fn answer(gone: &mut Gone, words: &mut Words, out: &mut Vec<u8>) -> Result<(), End> {
     match words.word()? {
-        b"from-row" => from_row(gone, words, out),
         b"is-gone" => is_gone(gone, words, out),
         b"add" => add(gone, words, out),
         b"count" => show_number(gone.rows().len() as u64, out),

@@ -9,7 +9,6 @@ mod latches;
 mod lines;
 mod locks;
 mod memories;
-mod one_row;
 mod operations;
 mod rows;
 mod semaphores;

@@ -1,20 +1,12 @@
 //! Calls of the tables of longs, references and maps.
 use crate::end::End;
-use crate::one_row::one_row;
 use crate::operations::{long_op, map_op, ref_op};
 use crate::shown::{show, show_answer, show_number, show_value};
 use crate::words::Words;
 use cp_atomic::{Longs, Refs};
 use cp_base::Items;
-use cp_map::{Key, Maps};
+use cp_map::Maps;
 use cp_ops::Answer;
-
-fn longs_from_row(longs: &mut Longs, words: &mut Words, out: &mut Vec<u8>) -> Result<(), End> {
-    let name = words.name()?;
-    let rows = one_row(words.alloc(), name, words.value()?)?;
-    *longs = Longs::from_rows(words.alloc(), rows)?;
-    show(b"ok", out)
-}
 
 fn apply_long(longs: &mut Longs, words: &mut Words, out: &mut Vec<u8>) -> Result<(), End> {
     let name = words.name()?;
@@ -24,7 +16,6 @@ fn apply_long(longs: &mut Longs, words: &mut Words, out: &mut Vec<u8>) -> Result
 /// Makes the call on longs that words spell, and shows its answer.
 pub fn answer_long(longs: &mut Longs, words: &mut Words, out: &mut Vec<u8>) -> Result<(), End> {
     match words.word()? {
-        b"from-row" => longs_from_row(longs, words, out),
         b"apply" => apply_long(longs, words, out),
         b"value" => show_value(longs.value(&words.name()?), out),
         b"destroy" => {
@@ -34,13 +25,6 @@ pub fn answer_long(longs: &mut Longs, words: &mut Words, out: &mut Vec<u8>) -> R
         b"count" => show_number(longs.rows().len() as u64, out),
         _ => Err(End::BadLine),
     }
-}
-
-fn refs_from_row(refs: &mut Refs, words: &mut Words, out: &mut Vec<u8>) -> Result<(), End> {
-    let name = words.name()?;
-    let rows = one_row(words.alloc(), name, words.reference()?)?;
-    *refs = Refs::from_rows(words.alloc(), rows)?;
-    show(b"ok", out)
 }
 
 fn apply_ref(refs: &mut Refs, words: &mut Words, out: &mut Vec<u8>) -> Result<(), End> {
@@ -59,7 +43,6 @@ fn show_bytes(bytes: Option<&Items<u8>>, out: &mut Vec<u8>) -> Result<(), End> {
 /// Makes the call on references that words spell, and shows its answer.
 pub fn answer_ref(refs: &mut Refs, words: &mut Words, out: &mut Vec<u8>) -> Result<(), End> {
     match words.word()? {
-        b"from-row" => refs_from_row(refs, words, out),
         b"apply" => apply_ref(refs, words, out),
         b"value" => show_bytes(refs.value(&words.name()?), out),
         b"destroy" => {
@@ -69,13 +52,6 @@ pub fn answer_ref(refs: &mut Refs, words: &mut Words, out: &mut Vec<u8>) -> Resu
         b"count" => show_number(refs.rows().len() as u64, out),
         _ => Err(End::BadLine),
     }
-}
-
-fn maps_from_row(maps: &mut Maps, words: &mut Words, out: &mut Vec<u8>) -> Result<(), End> {
-    let place = (words.name()?, Key::new(words.bytes()?));
-    let rows = one_row(words.alloc(), place, words.bytes()?)?;
-    *maps = Maps::from_rows(words.alloc(), rows)?;
-    show(b"ok", out)
 }
 
 fn apply_map(maps: &mut Maps, words: &mut Words, out: &mut Vec<u8>) -> Result<(), End> {
@@ -91,7 +67,6 @@ fn value_in_map(maps: &Maps, words: &mut Words, out: &mut Vec<u8>) -> Result<(),
 /// Makes the call on maps that words spell, and shows its answer.
 pub fn answer_map(maps: &mut Maps, words: &mut Words, out: &mut Vec<u8>) -> Result<(), End> {
     match words.word()? {
-        b"from-row" => maps_from_row(maps, words, out),
         b"apply" => apply_map(maps, words, out),
         b"value" => value_in_map(maps, words, out),
         b"destroy" => {

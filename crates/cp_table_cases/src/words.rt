@@ -1,11 +1,8 @@
 //! The words of a line, which one space parts, and what they spell.
-ghost use Rattle.std.specs.Prelude.{◌≤◌, ◌^◌, IfOk};
-
 use crate::end::End;
 use cp_base::{
     ClientId, Invocation, Items, Name, ThreadNo, read_decimal, read_hex, read_signed, split_at_byte,
 };
-use cp_grammar::MOST_INDEX;
 use cp_group_state::{Holder, Waiter};
 use cp_ops::{Answer, Kind, Wish};
 use std::alloc::Global;
@@ -63,17 +60,6 @@ impl<'a> Words<'a> {
             Some(number) => Ok(number),
             None => Err(End::BadLine),
         }
-    }
-
-    /// An index of at most 2^62.
-    pub fn index(&mut self) -> Result<u64, End>
-        ensures { IfOk result (λ index. index ≤ 2 ^ 62) }
-    {
-        let index = self.number()?;
-        if index > MOST_INDEX {
-            return Err(End::BadLine);
-        }
-        Ok(index)
     }
 
     /// A number of 32 bits.

@@ -1,21 +1,33 @@
-//! Three members of one group in one process, whose messages are handed over in their order.
+//! Three members of one group in one process, whose messages are handed over in their order; and the decisions that their rules are
+//! made of, one by one.
 //!
-//! With no word, four groups one after another: the first member is elected, and one entry is committed; the third member is removed
-//! after the election; a follower is handed an entry twice; a follower is handed pieces of two snapshots. What is sent, committed and, in
-//! the last two, written is told. With `bench` and a number: so many entries are committed at all three.
+//! With no word, the rows of the standard input are answered. `run` and a name is a run of one group, and shows what is sent and
+//! committed: `elect`, the first member is elected, and one entry is committed; `remove`, the third member is removed after the
+//! election; `repeat`, a follower is handed an entry twice; `install`, a follower is handed pieces of two snapshots, where what is
+//! written is shown too. Any other row asks for one decision, and is shown with its answer behind a colon: `elections.rt`,
+//! `replies.rt`, `changes.rt` and `chunks.rt` say which rows there are. Numbers of one word have commas between them, `-` is none. Behind the
+//! row `new` no piece of a snapshot is received yet. A line that is no row gives status 1, and then nothing is printed.
+//!
+//! With `bench` and a number: so many entries are committed at all three.
 #![tactic(auto)]
 
+mod changes;
+mod chunks;
 mod coming;
+mod elections;
 mod following;
 mod group;
 mod lines;
 mod member;
+mod replies;
+mod rows;
 mod running;
+mod words;
 
 use cp_base::read_decimal;
-use cp_io::{Writing, write_all};
-use following::{install, repeat};
-use running::{bench, elect, shrink};
+use cp_io::{Reading, Writing};
+use rows::{RowsEnd, show_rows};
+use running::bench;
 use std::alloc::Global;
 use std::env;
 use std::process::ExitCode;
@@ -23,7 +35,7 @@ use std::rt::Env;
 
 /// What the words ask for.
 enum Task {
-    Tell,
+    Show,
     Bench(u64),
     Nothing,
 }
@@ -31,7 +43,7 @@ enum Task {
 /// What the words ask for.
 fn task_of(words: &[String]) -> Task {
     match words {
-        [] => Task::Tell,
+        [] => Task::Show,
         [word, count] if word.as_str() == "bench" => match read_decimal(count.as_bytes()) {
             Some(count) => Task::Bench(count),
             None => Task::Nothing,
@@ -63,22 +75,14 @@ fn status(done: bool) -> ExitCode {
     }
 }
 
-/// Appends the lines of a group.
-fn add(lines: Option<Vec<u8>>, text: &mut Vec<u8>) -> bool {
-    match lines {
-        Some(lines) => text.extend_from_slice(&lines).is_ok(),
-        None => false,
+/// The exit status of rows that were shown, or not to their end.
+fn status_of(shown: Result<(), RowsEnd>) -> ExitCode {
+    match shown {
+        Ok(()) => ExitCode::from(0),
+        Err(RowsEnd::BadInput) => ExitCode::from(1),
+        Err(RowsEnd::NoMemory) => ExitCode::from(4),
+        Err(RowsEnd::WriteFault) => ExitCode::from(5),
     }
-}
-
-/// The lines of all groups.
-fn told(alloc: Global) -> Option<Vec<u8>> {
-    let mut text = Vec::new(alloc);
-    let done = add(elect(alloc), &mut text)
-        && add(shrink(alloc), &mut text)
-        && add(repeat(alloc), &mut text)
-        && add(install(alloc), &mut text);
-    if done { Some(text) } else { None }
 }
 
 fn main(rt: HostRuntime) -> ExitCode {
@@ -87,13 +91,11 @@ fn main(rt: HostRuntime) -> ExitCode {
         return ExitCode::from(3);
     };
     match task_of(&words) {
-        Task::Tell => match told(alloc) {
-            Some(text) => {
-                let mut sink = Writing::new(rt.stdout());
-                status(write_all(&mut sink, &text).is_ok())
-            }
-            None => status(false),
-        },
+        Task::Show => {
+            let mut source = Reading::new(rt.stdin());
+            let mut sink = Writing::new(rt.stdout());
+            status_of(show_rows(alloc, &mut source, &mut sink))
+        }
         Task::Bench(count) => status(bench(alloc, count)),
         Task::Nothing => ExitCode::from(2),
     }

@@ -15,8 +15,7 @@ use cp_base::{GroupId, Items, MemberNo};
 use cp_disk::MemoryDisk;
 use cp_log::Store;
 use cp_message::Message;
-use cp_raft::{Raft, RaftEvent, RaftOut};
-use cp_rules::Change;
+use cp_raft::{Change, Raft, RaftEvent, RaftOut};
 use std::alloc::Global;
 
 /// A member over its store. One that is down takes no step any more.

@@ -1,6 +1,7 @@
 //! Runs of the top call over memory. What is expected was worked out by hand.
 use crate::run::run;
 use crate::status::{LimitName, Status};
+use cp_disk::MemoryDisk;
 use cp_io::{Failed, MemorySink, MemorySource, Source};
 use std::alloc::Global;
 use std::test::Fail;
@@ -47,7 +48,14 @@ fn words(alloc: Global, all: &[&str]) -> Result<Vec<String>, Fail> {
 fn replayed(alloc: Global, bytes: &[u8]) -> Result<(Status, Vec<u8>), Fail> {
     let mut source = MemorySource::new(alloc, bytes, &[])?;
     let mut sink = MemorySink::new(alloc, 1_000_000, &[])?;
-    let status = run(alloc, &words(alloc, &["replay"])?, &mut source, &mut sink);
+    let mut disks: Vec<MemoryDisk> = Vec::new(alloc);
+    let status = run(
+        alloc,
+        &words(alloc, &["replay"])?,
+        &mut source,
+        &mut sink,
+        &mut disks,
+    );
     Ok((status, Vec::from_slice(alloc, sink.bytes())?))
 }
 
@@ -89,11 +97,14 @@ fn reads_nothing_for_unknown_words(rt: HostRuntime) -> Result<(), Fail> {
     let alloc = rt.alloc();
     let mut source = MemorySource::new(alloc, ADD, &[])?;
     let mut sink = MemorySink::new(alloc, 1_000_000, &[])?;
+    let mut disks = Vec::new(alloc);
+    disks.push(MemoryDisk::new(alloc, &[7], &[])?)?;
     let status = run(
         alloc,
         &words(alloc, &["replay", "extra"])?,
         &mut source,
         &mut sink,
+        &mut disks,
     );
     assert_eq!(rt; status, Status::Usage);
     assert!(rt; sink.bytes().is_empty());
@@ -111,7 +122,14 @@ fn reads_and_writes_byte_by_byte(rt: HostRuntime) -> Result<(), Fail> {
         at: 0,
     };
     let mut sink = MemorySink::new(alloc, 1, &[])?;
-    let status = run(alloc, &words(alloc, &["replay"])?, &mut source, &mut sink);
+    let mut disks: Vec<MemoryDisk> = Vec::new(alloc);
+    let status = run(
+        alloc,
+        &words(alloc, &["replay"])?,
+        &mut source,
+        &mut sink,
+        &mut disks,
+    );
     assert_eq!(rt; status, Status::Done);
     assert_eq!(rt; sink.bytes(), ADDED);
     Ok(())
@@ -122,7 +140,14 @@ fn tells_a_fault_of_the_second_read(rt: HostRuntime) -> Result<(), Fail> {
     let alloc = rt.alloc();
     let mut source = MemorySource::new(alloc, ADD, &[2])?;
     let mut sink = MemorySink::new(alloc, 1_000_000, &[])?;
-    let status = run(alloc, &words(alloc, &["replay"])?, &mut source, &mut sink);
+    let mut disks: Vec<MemoryDisk> = Vec::new(alloc);
+    let status = run(
+        alloc,
+        &words(alloc, &["replay"])?,
+        &mut source,
+        &mut sink,
+        &mut disks,
+    );
     assert_eq!(rt; status, Status::ReadFault);
     assert!(rt; sink.bytes().is_empty());
     Ok(())
@@ -135,7 +160,14 @@ fn tells_a_fault_of_the_first_or_the_second_write(rt: HostRuntime) -> Result<(),
     for (call, wanted) in table.iter() {
         let mut source = MemorySource::new(alloc, ADD, &[])?;
         let mut sink = MemorySink::new(alloc, 10, &[*call])?;
-        let status = run(alloc, &words(alloc, &["replay"])?, &mut source, &mut sink);
+        let mut disks: Vec<MemoryDisk> = Vec::new(alloc);
+        let status = run(
+            alloc,
+            &words(alloc, &["replay"])?,
+            &mut source,
+            &mut sink,
+            &mut disks,
+        );
         assert_eq!(rt; status, Status::WriteFault);
         assert_eq!(rt; sink.bytes(), *wanted);
     }

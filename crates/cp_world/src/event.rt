@@ -1,5 +1,5 @@
 //! An event, and all that follows from it.
-ghost use Rattle.std.specs.Prelude.{◌≡◌, ◌≤◌, ◌+◌, ◌^◌, OnOk};
+ghost use Rattle.std.specs.Prelude.{◌≡◌, ◌≤◌, ◌+◌, OnOk};
 ghost use Rattle.std.specs.Ordering.{nat_cmp};
 ghost use Rattle.cp_events.specs.declared.event.Event.TheVariants as event;
 ghost use Rattle.cp_group_state.specs.Rows.{find};
@@ -13,13 +13,10 @@ use crate::committing::does;
 use crate::handing::handed;
 use crate::turn::Turn;
 use crate::world::World;
+use cp_base::limits::LAST_NUMBER;
 use cp_base::{ClientNo, NoMemory, ThreadNo};
 use cp_client::ClientOut;
 use cp_events::{Event, Ignored, Plan, UserOp};
-use std::mem;
-
-/// The clocks of clients end here.
-const CLOCK_END: u64 = 1 << 62;
 
 fn is_client(plan: &Plan, me: ClientNo) -> bool
     ensures { result ≡ is_client plan.now me }
@@ -40,7 +37,7 @@ fn calls_now(
     requires { HasRoomFor (calls_now plan.now me thread op.now) world.old turn.old }
     ensures { OnOk result (Leads (calls_now plan.now me thread op.now) world.old turn.old world.new turn.new) }
 {
-    given.clear(world.alloc);
+    given.clear();
     call_at(world.alloc, &mut world.clients, plan, me, thread, op, given)?;
     does(world, me, given, turn)
 }
@@ -76,10 +73,10 @@ fn moves_now(
     turn: &mut Turn,
 ) -> Result<(), NoMemory>
     requires room { HasRoomFor (moves_if_room me ms) world.old turn.old }
-    requires clock { (or_new (find nat_cmp world.old.clients.entries me.0)).clock + ms ≤ 2 ^ 62 }
+    requires clock { (or_new (find nat_cmp world.old.clients.entries me.0)).clock + ms ≤ LAST_NUMBER }
     ensures { OnOk result (Leads (moves_if_room me ms) world.old turn.old world.new turn.new) }
 {
-    given.clear(world.alloc);
+    given.clear();
     tick_at(world.alloc, &mut world.clients, me, ms, given)?;
     does(world, me, given, turn)
 }
@@ -96,7 +93,7 @@ fn moves(
     ensures { OnOk result (Leads (moves_if_room me ms) world.old turn.old world.new turn.new) }
 {
     let clock = clock_of(&world.clients, me);
-    if clock > CLOCK_END - u64::from(ms) {
+    if clock > LAST_NUMBER - u64::from(ms) {
         turn.ignored = Some(Ignored::ClockEnd(clock));
         return Ok(());
     }
@@ -168,7 +165,7 @@ fn begin(
 
 /// The next event, of which the steps of clients are given in this list. An answer makes its client ask at most once
 /// more, so the queue is empty when it was handed on twice.
-fn step_in(
+pub fn step(
     world: &mut World,
     plan: &Plan,
     event: &Event,
@@ -178,21 +175,10 @@ fn step_in(
     requires { IsReached plan.now world.old }
     ensures { OnOk result ((w : Rules) → Follows w world.old → IsStep plan.now event.now w world.new turn.new) }
 {
-    turn.start(world.alloc, world.events + 1);
+    turn.start(world.events + 1);
     begin(world, plan, event, given, turn)?;
     handed(world, plan, given, turn)?;
     handed(world, plan, given, turn)?;
     world.events += 1;
-    Ok(())
-}
-
-/// The next event: what it shows, and the entries that it committed.
-pub fn step(world: &mut World, plan: &Plan, event: &Event, turn: &mut Turn) -> Result<(), NoMemory>
-    requires { IsReached plan.now world.old }
-    ensures { OnOk result ((w : Rules) → Follows w world.old → IsStep plan.now event.now w world.new turn.new) }
-{
-    let mut given = mem::replace(&mut world.given, ClientOut::new(world.alloc));
-    step_in(world, plan, event, &mut given, turn)?;
-    world.given = given;
     Ok(())
 }
