@@ -2,8 +2,9 @@
 //! sessions ask for one lock instead: one owns it, 9,999 calls wait and one more of another thread, the next is turned away, and the
 //! owner's session is closed. The status is 0 where all are answered as they must be. Then the rows of the standard input are applied
 //! to one new machine, and what they are answered is printed. Each row is one line: the index of an entry and the entry's bytes, as
-//! hexadecimal digits that spaces may part, or `look` and the bytes of a read that needs no entry. Lines that begin with `#` are
-//! comments. A line that is no row gives status 1, and then nothing is printed.
+//! hexadecimal digits that spaces may part; `look` and the bytes of a read that needs no entry; `restore` and the bytes of a state,
+//! with which the machine goes on where they spell one; `snapshot`, which shows the bytes of the machine's state; `new` for a new
+//! machine. Lines that begin with `#` are comments. A line that is no row gives status 1, and then nothing is printed.
 #![tactic(auto)]
 
 ghost use Rattle.std.specs.Prelude.{◌≤◌, ◌^◌};

@@ -4,7 +4,7 @@ ghost use Rattle.std.specs.Prelude.{◌≤◌, ◌^◌, IfOk};
 use crate::answers;
 use cp_answers::Answer;
 use cp_base::limits::LAST_NUMBER;
-use cp_base::{Invocation, Items, NoMemory, Text, read_decimal, read_hex};
+use cp_base::{Invocation, Items, NoMemory, Text, read_decimal, read_hex, write_hex};
 use cp_grammar::ReadError;
 use cp_io::{Fault, ReadEnd, Sink, Source, read_all, write_all};
 use cp_op_values::append_numbered;
@@ -173,21 +173,75 @@ fn show_look(
     Ok(())
 }
 
-/// Does what a row asks for: an index and the bytes of an entry, or `look` and the bytes of a read.
+/// Begins with the machine that bytes restore, or appends the place of the first field that fails.
+fn show_restore(
+    alloc: Global,
+    machine: &mut GroupMachine,
+    bytes: &[u8],
+    out: &mut Vec<u8>,
+) -> Result<(), RowsEnd> {
+    match GroupMachine::read_bytes(alloc, bytes) {
+        Ok(restored) => {
+            *machine = restored;
+            out.extend_from_slice(b"restored\n")?;
+            Ok(())
+        }
+        Err(ReadError::NotInGrammar(place)) => {
+            append_numbered(b"no state, at ", place as u64, out)?;
+            out.push(b'\n')?;
+            Ok(())
+        }
+        Err(ReadError::NoMemory) => Err(RowsEnd::NoMemory),
+    }
+}
+
+/// Appends the bytes that restore to the machine, as hexadecimal digits.
+fn show_snapshot(alloc: Global, machine: &GroupMachine, out: &mut Vec<u8>) -> Result<(), RowsEnd> {
+    let mut bytes = Vec::new(alloc);
+    machine.write_bytes(&mut bytes)?;
+    out.extend_from_slice(b"snapshot ")?;
+    write_hex(&bytes, out)?;
+    out.push(b'\n')?;
+    Ok(())
+}
+
+/// Does what a row of more than one word asks for.
+fn show_words(
+    alloc: Global,
+    machine: &mut GroupMachine,
+    first: &str,
+    words: &str,
+    out: &mut Vec<u8>,
+) -> Result<(), RowsEnd> {
+    let bytes = bytes_of(alloc, words)?;
+    if first == "look" {
+        return show_look(alloc, machine, &bytes, out);
+    }
+    if first == "restore" {
+        return show_restore(alloc, machine, &bytes, out);
+    }
+    show_entry(alloc, machine, index_of(first)?, &bytes, out)
+}
+
+/// Does what a row asks for: an index and the bytes of an entry, `look` and the bytes of a read, `restore` and the bytes of
+/// a state, `snapshot`, or `new`.
 fn show_row(
     alloc: Global,
     machine: &mut GroupMachine,
     row: &str,
     out: &mut Vec<u8>,
 ) -> Result<(), RowsEnd> {
-    let Some((first, words)) = row.split_once(' ') else {
-        return Err(RowsEnd::BadInput);
-    };
-    let bytes = bytes_of(alloc, words)?;
-    if first == "look" {
-        return show_look(alloc, machine, &bytes, out);
+    if row == "snapshot" {
+        return show_snapshot(alloc, machine, out);
     }
-    show_entry(alloc, machine, index_of(first)?, &bytes, out)
+    if row == "new" {
+        *machine = GroupMachine::begin(alloc)?;
+        return Ok(());
+    }
+    match row.split_once(' ') {
+        Some((first, words)) => show_words(alloc, machine, first, words, out),
+        None => Err(RowsEnd::BadInput),
+    }
 }
 
 /// What the rows of a text show, one on each line that is not empty and does not begin with `#`.

@@ -1,0 +1,25 @@
+//! Calls of the list of destroyed objects.
+use crate::end::End;
+use crate::shown::{show_flag, show_number};
+use crate::words::Words;
+use cp_remembered::Gone;
+
+fn is_gone(gone: &Gone, words: &mut Words, out: &mut Vec<u8>) -> Result<(), End> {
+    let kind = words.kind()?;
+    show_flag(gone.is_gone(kind, &words.name()?)?, out)
+}
+
+fn add(gone: &mut Gone, words: &mut Words, out: &mut Vec<u8>) -> Result<(), End> {
+    let kind = words.kind()?;
+    show_flag(gone.add(kind, &words.name()?)?, out)
+}
+
+/// Makes the call that words spell, and shows its answer.
+pub fn answer(gone: &mut Gone, words: &mut Words, out: &mut Vec<u8>) -> Result<(), End> {
+    match words.word()? {
+        b"is-gone" => is_gone(gone, words, out),
+        b"add" => add(gone, words, out),
+        b"count" => show_number(gone.rows().len() as u64, out),
+        _ => Err(End::BadLine),
+    }
+}

@@ -1,0 +1,50 @@
+//! Calls that all tables share, on rows of small numbers.
+ghost use Rattle.std.specs.Prelude.{◌≡◌, is_some};
+ghost use Rattle.std.specs.Ordering.{nat_cmp};
+ghost use Rattle.cp_group_state.specs.Rows.{find};
+
+use crate::end::End;
+use crate::shown::{show, show_found, show_number};
+use crate::words::Words;
+use cp_rows::{put_row, write_row};
+use std::collections::BTreeMap;
+
+/// Rows under numbers.
+pub type Rows = BTreeMap<u64, u8>;
+
+fn put(rows: &mut Rows, words: &mut Words, out: &mut Vec<u8>) -> Result<(), End> {
+    put_row(rows, words.number()?, words.byte()?)?;
+    show(b"ok", out)
+}
+
+fn has(rows: &BTreeMap<u64, u8>, key: u64) -> bool
+    ensures { result ≡ is_some (find nat_cmp rows.now.entries key) }
+{
+    rows.contains_key(&key)
+}
+
+fn write(rows: &mut Rows, words: &mut Words, out: &mut Vec<u8>) -> Result<(), End> {
+    let key = words.number()?;
+    let row = words.byte()?;
+    if !has(rows, key) {
+        return show(b"none", out);
+    }
+    write_row(rows, &key, row);
+    show(b"ok", out)
+}
+
+fn get(rows: &Rows, words: &mut Words, out: &mut Vec<u8>) -> Result<(), End> {
+    let row = rows.get(&words.number()?).copied();
+    show_found(row.map(u64::from), out)
+}
+
+/// Makes the call that words spell, and shows its answer.
+pub fn answer(rows: &mut Rows, words: &mut Words, out: &mut Vec<u8>) -> Result<(), End> {
+    match words.word()? {
+        b"put" => put(rows, words, out),
+        b"write" => write(rows, words, out),
+        b"get" => get(rows, words, out),
+        b"count" => show_number(rows.len() as u64, out),
+        _ => Err(End::BadLine),
+    }
+}

@@ -1,0 +1,111 @@
+//! Calls of the table of calls that wait.
+use crate::end::End;
+use crate::shown::{show, show_flag, show_number, show_numbered, show_waiter, show_waiters};
+use crate::words::Words;
+use cp_base::Items;
+use cp_group_state::Waiter;
+use cp_wait::{RowsError, WaitError, Waits};
+
+/// The waiters that all words spell.
+fn rows(words: &mut Words) -> Result<Items<Waiter>, End> {
+    let mut rows = Items::new(words.alloc());
+    for _ in 0..words.rest().len() {
+        if words.is_done() {
+            break;
+        }
+        rows.push(words.waiter()?)?;
+    }
+    Ok(rows)
+}
+
+fn from_rows(waits: &mut Waits, words: &mut Words, out: &mut Vec<u8>) -> Result<(), End> {
+    match Waits::from_rows(words.alloc(), rows(words)?) {
+        Ok(made) => {
+            *waits = made;
+            show(b"ok", out)
+        }
+        Err(RowsError::Repeated) => show(b"repeated", out),
+        Err(RowsError::TooMany) => show(b"too-many", out),
+        Err(RowsError::NoMemory) => Err(End::NoMemory),
+    }
+}
+
+fn join(waits: &mut Waits, words: &mut Words, out: &mut Vec<u8>) -> Result<(), End> {
+    let waiter = words.waiter()?;
+    if waits.stands(&waiter.call) {
+        return show(b"stands", out);
+    }
+    match waits.join(waiter) {
+        Ok(()) => show(b"ok", out),
+        Err(WaitError::TableFull(most)) => show_numbered(b"full", u64::from(most), out),
+        Err(WaitError::NoMemory) => Err(End::NoMemory),
+    }
+}
+
+fn first(waits: &Waits, words: &mut Words, out: &mut Vec<u8>) -> Result<(), End> {
+    let kind = words.kind()?;
+    show_waiter(waits.first(kind, &words.name()?), out)
+}
+
+fn on_object(waits: &Waits, words: &mut Words, out: &mut Vec<u8>) -> Result<(), End> {
+    let kind = words.kind()?;
+    show_waiters(waits.on_object(kind, &words.name()?)?.as_slice(), out)
+}
+
+fn served(waits: &Waits, words: &mut Words, out: &mut Vec<u8>) -> Result<(), End> {
+    let kind = words.kind()?;
+    let name = words.name()?;
+    show_waiters(waits.served(kind, &name, words.value()?)?.as_slice(), out)
+}
+
+fn leave(waits: &mut Waits, words: &mut Words, out: &mut Vec<u8>) -> Result<(), End> {
+    let waiter = waits.leave(&words.call()?);
+    show_waiter(waiter.as_ref(), out)
+}
+
+/// The waiters of these sessions end.
+fn end_sessions(waits: &mut Waits, words: &mut Words, out: &mut Vec<u8>) -> Result<(), End> {
+    let ended = waits.of_sessions(&words.numbers()?)?;
+    waits.end(ended.as_slice());
+    show_waiters(ended.as_slice(), out)
+}
+
+fn limited(waits: &Waits, words: &mut Words, out: &mut Vec<u8>) -> Result<(), End> {
+    show_waiter(waits.limited(usize::from(words.byte()?)), out)
+}
+
+/// Makes the call that words spell and that changes nothing, and shows its answer.
+fn answer_read(
+    waits: &Waits,
+    call: &[u8],
+    words: &mut Words,
+    out: &mut Vec<u8>,
+) -> Result<(), End> {
+    match call {
+        b"len" => show_number(waits.len() as u64, out),
+        b"count" => show_number(waits.rows().len() as u64, out),
+        b"stands" => show_flag(waits.stands(&words.call()?), out),
+        b"waiter" => show_waiter(waits.waiter(&words.call()?), out),
+        b"first" => first(waits, words, out),
+        b"served" => served(waits, words, out),
+        b"on-object" => on_object(waits, words, out),
+        b"of-call" => show_waiters(waits.of_call(&words.call()?)?.as_slice(), out),
+        b"older" => show_waiters(waits.older(&words.call()?)?.as_slice(), out),
+        b"of-sessions" => show_waiters(waits.of_sessions(&words.numbers()?)?.as_slice(), out),
+        b"all" => show_waiters(waits.all()?.as_slice(), out),
+        b"limited-len" => show_number(waits.limited_len() as u64, out),
+        b"limited" => limited(waits, words, out),
+        _ => Err(End::BadLine),
+    }
+}
+
+/// Makes the call that words spell, and shows its answer.
+pub fn answer(waits: &mut Waits, words: &mut Words, out: &mut Vec<u8>) -> Result<(), End> {
+    match words.word()? {
+        b"from-rows" => from_rows(waits, words, out),
+        b"join" => join(waits, words, out),
+        b"leave" => leave(waits, words, out),
+        b"end-sessions" => end_sessions(waits, words, out),
+        call => answer_read(waits, call, words, out),
+    }
+}

@@ -1,0 +1,202 @@
+//! The words of a line, which one space parts, and what they spell.
+use crate::end::End;
+use cp_base::{
+    ClientId, Invocation, Items, Name, ThreadNo, read_decimal, read_hex, read_signed, split_at_byte,
+};
+use cp_group_state::{Holder, Waiter};
+use cp_ops::{Answer, Kind, Wish};
+use std::alloc::Global;
+use uuid::Uuid;
+
+/// The words of a line that were not read yet.
+#[derive(Drop)]
+pub struct Words<'a> {
+    alloc: Global,
+    rest: &'a [u8],
+}
+
+impl<'a> Words<'a> {
+    /// The words of a line.
+    pub fn new(alloc: Global, line: &'a [u8]) -> Words<'a> {
+        Words { alloc, rest: line }
+    }
+
+    /// The allocator of what the words spell.
+    pub fn alloc(&self) -> Global {
+        self.alloc
+    }
+
+    /// The words that were not read yet, as they stand.
+    pub fn rest(&self) -> &'a [u8] {
+        self.rest
+    }
+
+    /// Whether all words were read.
+    pub fn is_done(&self) -> bool {
+        self.rest.is_empty()
+    }
+
+    /// The next word.
+    pub fn word(&mut self) -> Result<&'a [u8], End> {
+        let line = self.rest;
+        if line.is_empty() {
+            return Err(End::BadLine);
+        }
+        match split_at_byte(b' ', line) {
+            Some((word, rest)) => {
+                self.rest = rest;
+                Ok(word)
+            }
+            None => {
+                self.rest = &[];
+                Ok(line)
+            }
+        }
+    }
+
+    /// A number.
+    pub fn number(&mut self) -> Result<u64, End> {
+        match read_decimal(self.word()?) {
+            Some(number) => Ok(number),
+            None => Err(End::BadLine),
+        }
+    }
+
+    /// A number of 32 bits.
+    pub fn count(&mut self) -> Result<u32, End> {
+        match u32::try_from(self.number()?) {
+            Ok(count) => Ok(count),
+            Err(_) => Err(End::BadLine),
+        }
+    }
+
+    /// A number of 8 bits.
+    pub fn byte(&mut self) -> Result<u8, End> {
+        match u8::try_from(self.number()?) {
+            Ok(byte) => Ok(byte),
+            Err(_) => Err(End::BadLine),
+        }
+    }
+
+    /// A number of 64 bits with a sign.
+    pub fn value(&mut self) -> Result<i64, End> {
+        match read_signed(self.word()?) {
+            Some(value) => Ok(value),
+            None => Err(End::BadLine),
+        }
+    }
+
+    /// All words that are left, each a number.
+    pub fn numbers(&mut self) -> Result<Vec<u64>, End> {
+        let mut numbers = Vec::new(self.alloc);
+        for _ in 0..self.rest.len() {
+            if self.is_done() {
+                break;
+            }
+            numbers.push(self.number()?)?;
+        }
+        Ok(numbers)
+    }
+
+    /// A name.
+    pub fn name(&mut self) -> Result<Name, End> {
+        Ok(Name::read(self.alloc, self.word()?)?)
+    }
+
+    /// The kind of an object.
+    pub fn kind(&mut self) -> Result<Kind, End> {
+        match self.word()? {
+            b"long" => Ok(Kind::Long),
+            b"ref" => Ok(Kind::Ref),
+            b"lock" => Ok(Kind::Lock),
+            b"sem" => Ok(Kind::Sem),
+            b"jsem" => Ok(Kind::Jsem),
+            b"latch" => Ok(Kind::Latch),
+            b"map" => Ok(Kind::Map),
+            _ => Err(End::BadLine),
+        }
+    }
+
+    /// Bytes: `x`, and two digits for each.
+    pub fn bytes(&mut self) -> Result<Items<u8>, End> {
+        match self.reference()? {
+            Some(bytes) => Ok(bytes),
+            None => Err(End::BadLine),
+        }
+    }
+
+    /// Bytes, or `null`.
+    pub fn reference(&mut self) -> Result<Option<Items<u8>>, End> {
+        match self.word()? {
+            b"null" => Ok(None),
+            [b'x', digits @ ..] => match read_hex(self.alloc, digits)? {
+                Some(bytes) => Ok(Some(Items::from_vec(bytes))),
+                None => Err(End::BadLine),
+            },
+            _ => Err(End::BadLine),
+        }
+    }
+
+    /// The identifier of a client, by its number.
+    pub fn client(&mut self) -> Result<ClientId, End> {
+        Ok(ClientId(Uuid::from_u128(u128::from(self.number()?))))
+    }
+
+    /// A thread.
+    pub fn thread(&mut self) -> Result<ThreadNo, End> {
+        Ok(ThreadNo(self.byte()?))
+    }
+
+    /// A call: client, thread, number.
+    pub fn call(&mut self) -> Result<Invocation, End> {
+        Ok(Invocation {
+            client: self.client()?,
+            thread: self.thread()?,
+            number: self.number()?,
+        })
+    }
+
+    /// A thread of a session.
+    pub fn holder(&mut self) -> Result<Holder, End> {
+        Ok(Holder {
+            session: self.number()?,
+            thread: self.thread()?,
+        })
+    }
+
+    /// How long a call may wait: `none` for no limit, or milliseconds.
+    pub fn wish(&mut self) -> Result<Wish, End> {
+        let word = self.word()?;
+        if word == b"none".as_slice() {
+            return Ok(Wish::NoLimit);
+        }
+        match Words::new(self.alloc, word).count() {
+            Ok(limit) => Ok(Wish::Within(limit)),
+            Err(end) => Err(end),
+        }
+    }
+
+    /// A waiter: call, kind, name, session, permits, wish.
+    pub fn waiter(&mut self) -> Result<Waiter, End> {
+        Ok(Waiter {
+            call: self.call()?,
+            kind: self.kind()?,
+            name: self.name()?,
+            session: self.number()?,
+            permits: self.count()?,
+            wish: self.wish()?,
+        })
+    }
+
+    /// What a call was answered, of a few kinds.
+    pub fn answer(&mut self) -> Result<Answer, End> {
+        match self.word()? {
+            b"ok" => Ok(Answer::Ok),
+            b"true" => Ok(Answer::Bool(true)),
+            b"false" => Ok(Answer::Bool(false)),
+            b"timed-out" => Ok(Answer::TimedOut),
+            b"fence" => Ok(Answer::Fence(self.number()?)),
+            _ => Err(End::BadLine),
+        }
+    }
+}
