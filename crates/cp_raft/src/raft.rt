@@ -102,7 +102,8 @@ fn write<D: Disk>(alloc: Global, store: &mut Store<D>, part: &Option<Part>) -> R
 
 /// Whether the part of a step is the snapshot of another member.
 fn is_installed(event: &RaftEvent, part: &Option<Part>) -> bool
-    ensures { (e : Event) (x : Option Written) (group : Group) → event_of event.now ≡ Some e → part.now ≡ option_map (part_of group) x → result ≡ is_installed e x }
+    ensures { (e : Event) (x : Option Written) (group : Group) → event_of event.now ≡ Some e
+        → part.now ≡ option_map (part_of group) x → result ≡ is_installed e x }
 {
     match (event, part) {
         (RaftEvent::Got(_), Some(Part::Snapshot(_, _, _, _, _))) => true,
@@ -121,11 +122,13 @@ fn give_up(out: &mut RaftOut)
 
 /// Says what a step did.
 fn tell(event: &RaftEvent, before: Role, part: &Option<Part>, state: &Volatile, out: &mut RaftOut)
-    ensures kept { (out.new.messages.items ≡ out.old.messages.items) × ((out.new.looks.items ≡ out.old.looks.items) × (out.new.lost.items ≡ out.old.lost.items)) }
+    ensures kept { (out.new.messages.items ≡ out.old.messages.items)
+        × ((out.new.looks.items ≡ out.old.looks.items) × (out.new.lost.items ≡ out.old.lost.items)) }
     ensures commit { out.new.commit ≡ state.now.commit }
     ensures stepped_down { out.new.stepped_down ≡ is_leader before && not (is_leader state.now.role) }
     ensures took_office { out.new.took_office ≡ not (is_leader before) && is_leader state.now.role }
-    ensures installed { (e : Event) (x : Option Written) (group : Group) → event_of event.now ≡ Some e → part.now ≡ option_map (part_of group) x → out.new.installed ≡ is_installed e x }
+    ensures installed { (e : Event) (x : Option Written) (group : Group) → event_of event.now ≡ Some e
+        → part.now ≡ option_map (part_of group) x → out.new.installed ≡ is_installed e x }
     ensures wrote { out.new.wrote ≡ is_some part.now }
 {
     let led = is_leader(before);
@@ -187,7 +190,8 @@ impl Raft {
         message: &Message,
     ) -> Result<Option<Vec<u8>>, NoMemory>
         requires { has_group (held_by store.now) (seat_of self.now).group.0 ≡ true }
-        ensures { IfOk result (λ whole. option_map (λ bytes. bytes.items) whole ≡ completed (stored_in self.now store.now) (state_of self.now) message.now.body) }
+        ensures { IfOk result (λ whole. option_map (λ bytes. bytes.items) whole
+            ≡ completed (stored_in self.now store.now) (state_of self.now) message.now.body) }
     {
         match &message.body {
             Body::Snapshot(chunk) => {
@@ -276,7 +280,8 @@ impl Raft {
             → IsErrOf result down.NoMemory → Rose (D.starved (disk_of store.old)) (D.starved (disk_of store.new)) }
         ensures any_moment { (e : Event) (x : Written) → event_of event.now ≡ Some e → (step_of self.old store.old e).part ≡ Some x → D.Told
             → LeavesOnly D.moment D.left_since (disk_of store.old) (disk_of store.new)
-            (StandsForEither (first_of store.old) (held_by store.old) (with_part (part_of (seat_of self.old).group x) (held_by store.old))) }
+            (StandsForEither (first_of store.old) (held_by store.old)
+            (with_part (part_of (seat_of self.old).group x) (held_by store.old))) }
         ensures untouched { (e : Event) → event_of event.now ≡ Some e → (step_of self.old store.old e).part ≡ None
             → store.new ≡ store.old }
     {

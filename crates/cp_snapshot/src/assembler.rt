@@ -136,7 +136,8 @@ impl Assembler {
         requires tidy { IsTidy self.old }
         requires room { self.old.kept + length bytes.now ≤ 2 ^ 26 - 64 }
         ensures kept { OnOk result (self.new.kept ≡ self.old.kept + length bytes.now) }
-        ensures ok { OnOk result (received self.new ≡ Some (record { term = term; index = index; bytes = self.old.bytes.items ++ bytes.now })) }
+        ensures ok { OnOk result (received self.new ≡ Some
+            (record { term = term; index = index; bytes = self.old.bytes.items ++ bytes.now })) }
         ensures err { OnErr result (received self.new ≡ received self.old) }
     {
         match self.bytes.extend_from_slice(bytes) {
@@ -153,7 +154,8 @@ impl Assembler {
     fn begin(&mut self, chunk: &Chunk) -> Result<Progress, NoMemory>
         requires { IsTidy self.old }
         ensures progress { IfOk result (λ p. p ≡ told (joined_to chunk.now.last chunk.now.bytes)) }
-        ensures received { OnOk result (received self.new ≡ received_with chunk.now.term chunk.now.index (received self.old) (joined_to chunk.now.last chunk.now.bytes)) }
+        ensures received { OnOk result (received self.new
+            ≡ received_with chunk.now.term chunk.now.index (received self.old) (joined_to chunk.now.last chunk.now.bytes)) }
         ensures whole { result ≡ Ok progress.Whole → held self.new ≡ chunk.now.bytes }
         ensures err { OnErr result (received self.new ≡ received self.old) }
     {
@@ -178,7 +180,9 @@ impl Assembler {
     fn go_on(&mut self, chunk: &Chunk) -> Result<Progress, NoMemory>
         requires { IsTidy self.old }
         ensures progress { IfOk result (λ p. p ≡ told (joined_to chunk.now.last (self.old.bytes.items ++ chunk.now.bytes))) }
-        ensures received { OnOk result (received self.new ≡ received_with chunk.now.term chunk.now.index (received self.old) (joined_to chunk.now.last (self.old.bytes.items ++ chunk.now.bytes))) }
+        ensures received { OnOk result (received self.new
+            ≡ received_with chunk.now.term chunk.now.index (received self.old)
+            (joined_to chunk.now.last (self.old.bytes.items ++ chunk.now.bytes))) }
         ensures whole { result ≡ Ok progress.Whole → held self.new ≡ self.old.bytes.items ++ chunk.now.bytes }
         ensures err { OnErr result (received self.new ≡ received self.old) }
     {
@@ -227,7 +231,8 @@ impl Assembler {
 /// The bytes before a chunk with those of the chunk, where it is the last and they are not too long.
 fn joined(alloc: Global, before: &[u8], chunk: &Chunk) -> Result<Option<Vec<u8>>, NoMemory>
     requires { length before.now ≤ 2 ^ 26 - 64 }
-    ensures { IfOk result (λ whole. option_map (λ bytes. bytes.items) whole ≡ whole_in (joined_to chunk.now.last (before.now ++ chunk.now.bytes))) }
+    ensures { IfOk result (λ whole. option_map (λ bytes. bytes.items) whole
+        ≡ whole_in (joined_to chunk.now.last (before.now ++ chunk.now.bytes))) }
 {
     if !chunk.last || MOST_SNAPSHOT - before.len() < chunk.bytes.len() {
         return Ok(None);

@@ -46,7 +46,8 @@ fn is_request(request: &VoteRequest) -> bool
 
 /// Whether entries to append are in range.
 fn is_append(append: &Append) -> bool
-    ensures { result ≡ true → AppendIsInRange append.now.term append.now.previous_index append.now.previous_term append.now.commit (map entry_in append.now.entries) }
+    ensures { result ≡ true → AppendIsInRange append.now.term append.now.previous_index append.now.previous_term
+        append.now.commit (map entry_in append.now.entries) }
 {
     let entries = append.entries.as_slice();
     is_index(append.term)
