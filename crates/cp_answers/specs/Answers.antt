@@ -3,6 +3,7 @@ use Rattle.std.specs.Prelude.{ℕ, ℤ, Bool, List, Option, Some, None, codes, t
 use Rattle.std.specs.Fmt.{decimal, signed_decimal}
 use Rattle.cp_base.specs.declared.identifier.ThreadNo.{ThreadNo}
 use Rattle.cp_base.specs.declared.identifier.GroupId.{GroupId}
+use Rattle.cp_base.specs.declared.limits.TheConstants.{MOST_REFERENCE}
 use Rattle.cp_grammar.specs.Grammar.{Grammar, always, keyed, variant, case, no_case, ◌then◌}
 use Rattle.cp_grammar.specs.Fields.{byte, number, signed, flag}
 use Rattle.cp_grammar.specs.Common.{index, group_id, thread_no, members}
@@ -136,7 +137,7 @@ answer_within most = keyed answer_tag (byte 22)
 
 -- the newest form
 abbrev pub answer_grammar : Grammar ℕ Answer
-answer_grammar = answer_within 4000
+answer_grammar = answer_within MOST_REFERENCE
 
 abbrev pub answer_text : Answer → List ℕ
 answer_text variants.Ok = codes "ok"

@@ -1,10 +1,11 @@
 -- The grammars of answers and refusals are lawful.
 use Rattle.std.specs.Prelude.{◌<◌, ◌^◌, ℕ}
 use Rattle.std.proofs.Common.{refl, arith}
+use Rattle.cp_base.specs.declared.limits.TheConstants.{MOST_REFERENCE}
 use Rattle.cp_codec.specs.Exact.{IsByte}
 use Rattle.cp_grammar.specs.Lawful.{IsLawful}
-use Rattle.cp_grammar.proofs.Laws.{enum_lawful, with_unit, with_variant, no_cases}
-use Rattle.cp_grammar.proofs.FieldLaws.{lawful, byte_lawful}
+use Rattle.cp_grammar.specs.Laws.{enum_lawful, with_unit, with_variant, no_cases}
+use Rattle.cp_grammar.specs.FieldLaws.{lawful, byte_lawful}
 use Rattle.cp_grammar.specs.Grammar.{◌then◌}
 use Rattle.cp_grammar.specs.Fields.{byte, signed, flag}
 use Rattle.cp_grammar.specs.Common.{index, group_id, thread_no, members}
@@ -55,7 +56,7 @@ answer_lawful most below = enum_lawful IsByte (byte 22) answer_tag _ (byte_lawfu
     (no_cases IsByte answer_tag))))))))))))))))))))))))
 
 pub answer_newest_lawful : IsLawful IsByte answer_grammar
-answer_newest_lawful = answer_lawful 4000 (omega arith)
+answer_newest_lawful = answer_lawful MOST_REFERENCE (omega arith)
 
 pub refusal_lawful : IsLawful IsByte refusal
 unfolding refusal

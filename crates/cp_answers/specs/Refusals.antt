@@ -1,6 +1,7 @@
 -- Why a member refuses a request. A refusal is no answer, and comes without an entry.
 use Rattle.std.specs.Prelude.{ℕ, List, Option, Some, None, codes, ◌++◌}
 use Rattle.std.specs.Fmt.{decimal}
+use Rattle.cp_base.specs.declared.limits.TheConstants.{MOST_MEMBER}
 use Rattle.cp_grammar.specs.Grammar.{Grammar, always, keyed, variant, case, no_case}
 use Rattle.cp_grammar.specs.Fields.{byte}
 use Rattle.cp_grammar.specs.Common.{index}
@@ -47,7 +48,7 @@ refusal_no_own_term_commit _ = None
 
 unfoldable pub refusal : Grammar ℕ Refusal
 refusal = keyed refusal_tag (byte 10)
-    (case 0 (variant variants.NotLeader refusal_not_leader (byte 9))
+    (case 0 (variant variants.NotLeader refusal_not_leader (byte MOST_MEMBER))
     (case 1 (variant variants.Overloaded refusal_overloaded any_u32)
     (case 2 (always variants.NoGroup)
     (case 3 (variant variants.IndexEnd refusal_index_end index)

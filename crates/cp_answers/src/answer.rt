@@ -7,6 +7,7 @@ ghost use Rattle.std.specs.Prelude.{◌≡◌, ◌++◌, List, ℕ, Ok, OnOk, On
 
 use crate::argument::Argument;
 use crate::ended_by::EndedBy;
+use cp_base::limits::MOST_REFERENCE;
 use cp_base::{GroupId, Items, NoMemory, Text, ThreadNo, write_decimal, write_signed};
 use cp_grammar::{
     ReadError, Spelled, Stop, append_flag, append_i64, append_index, append_members, append_u8,
@@ -14,8 +15,7 @@ use cp_grammar::{
     take_u64,
 };
 use cp_op_values::{
-    MOST_REFERENCE, append_members_text, append_numbered, append_reference, append_reference_text,
-    take_reference,
+    append_members_text, append_numbered, append_reference, append_reference_text, take_reference,
 };
 use std::alloc::Global;
 

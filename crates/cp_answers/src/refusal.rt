@@ -5,11 +5,12 @@ ghost use Rattle.cp_answers.specs.Refusals.{refusal};
 ghost use Rattle.cp_grammar.specs.Readers.{Tells};
 ghost use Rattle.std.specs.Prelude.{◌≡◌, ◌++◌, List, ℕ, Ok, OnOk, OnErr, IfOk};
 
+use cp_base::limits::MOST_MEMBER;
 use cp_base::{NoMemory, Text};
 use cp_grammar::{
     ReadError, Spelled, Stop, append_index, append_u8, append_u32, take_index, take_u8, take_u32,
 };
-use cp_op_values::{MOST_MEMBER, append_numbered};
+use cp_op_values::append_numbered;
 use std::alloc::Global;
 
 /// Why a member refuses a request. A refusal is no answer, and comes without an entry.

@@ -3,8 +3,9 @@ ghost use Rattle.std.specs.Prelude.{◌≤◌, ◌^◌, IfOk};
 
 use crate::answers;
 use cp_answers::Answer;
+use cp_base::limits::LAST_NUMBER;
 use cp_base::{Invocation, Items, NoMemory, Text, read_decimal, read_hex};
-use cp_grammar::{MOST_INDEX, ReadError};
+use cp_grammar::ReadError;
 use cp_io::{Fault, ReadEnd, Sink, Source, read_all, write_all};
 use cp_op_values::append_numbered;
 use cp_ops::{Entry, Op};
@@ -71,7 +72,7 @@ fn index_of(word: &str) -> Result<u64, RowsEnd>
     ensures { IfOk result (λ index. index ≤ 2 ^ 62) }
 {
     match read_decimal(word.as_bytes()) {
-        Some(index) if index <= MOST_INDEX => Ok(index),
+        Some(index) if index <= LAST_NUMBER => Ok(index),
         _ => Err(RowsEnd::BadInput),
     }
 }

@@ -4,13 +4,14 @@ use Rattle.std.specs.List.{list_all, position_or_len}
 use Rattle.std.proofs.lemmas.Bool.Decides.{nat_tests}
 use Rattle.cp_base.specs.Names.{IsName, is_name_byte, name_fault, fault_at, length_fault}
 use Rattle.cp_base.proofs.Splits.{none_fails}
+use Rattle.cp_base.specs.declared.limits.TheConstants.{MOST_NAME}
 
 -- no place that a byte is at fault, and no fault of the length
 no_fault : (place : Option ℕ) (bytes : List ℕ) → fault_at place bytes ≡ None → (place ≡ None) × (length_fault bytes ≡ None)
 no_fault None bytes none = (refl, none)
 no_fault (Some place) bytes none = absurd cc
 
-good_length : (bytes : List ℕ) → length_fault bytes ≡ None → (0 < length bytes) × (length bytes ≤ 64)
+good_length : (bytes : List ℕ) → length_fault bytes ≡ None → (0 < length bytes) × (length bytes ≤ MOST_NAME)
 good_length bytes none = grind (arith, nat_tests)
 
 pub is_name : (bytes : List ℕ) → name_fault bytes ≡ None → IsName bytes

@@ -1,6 +1,7 @@
 -- Which bytes are a name.
 use Rattle.std.specs.Prelude.{◌≡◌, ◌<◌, ◌≤◌, ℕ, Bool, ◌||◌, ◌&&◌, not, ◌==◌, nat_le, nat_lt, List, length, Option, Some, None, position, if◌then◌else◌, IsTrue}
 use Rattle.std.specs.List.{list_all}
+use Rattle.cp_base.specs.declared.limits.TheConstants.{MOST_NAME}
 use Rattle.cp_base.specs.declared.name.NameError.{NameError}
 use Rattle.cp_base.specs.declared.name.NameError.TheVariants.{BadName, NoMemory}
 
@@ -14,11 +15,11 @@ is_name_byte b = is_between 97 122 b || is_between 65 90 b || is_between 48 57 b
 -- 1 to 64 bytes, each of which may stand in a name
 pub record IsName (bytes : List ℕ) : Type 0 where
   pub some : 0 < length bytes
-  pub few : length bytes ≤ 64
+  pub few : length bytes ≤ MOST_NAME
   pub alphabet : IsTrue (list_all is_name_byte bytes)
 
 abbrev pub length_fault : List ℕ → Option ℕ
-length_fault bytes = if nat_lt 64 (length bytes) then Some 64 else if length bytes == 0 then Some 0 else None
+length_fault bytes = if nat_lt MOST_NAME (length bytes) then Some MOST_NAME else if length bytes == 0 then Some 0 else None
 
 abbrev pub fault_at : Option ℕ → List ℕ → Option ℕ
 fault_at (Some place) bytes = Some place

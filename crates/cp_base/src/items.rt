@@ -26,6 +26,15 @@ impl<T> Model for Items<T> {
     ghost view = { λ list. list.items.items };
 }
 
+impl<T: Drop> Items<T> {
+    /// Empties the list, which keeps its memory.
+    pub fn clear(&mut self)
+        ensures { self.new ≡ [] }
+    {
+        self.items.clear();
+    }
+}
+
 impl<T> Items<T> {
     /// The empty list.
     pub fn new(alloc: Global) -> Items<T>

@@ -5,6 +5,7 @@ mod decimal;
 mod hexadecimal;
 mod identifier;
 mod items;
+pub mod limits;
 mod memory;
 mod name;
 mod split;

@@ -1,10 +1,11 @@
 //! Names of objects and groups.
-ghost use Rattle.std.specs.Prelude.{◌≡◌, ◌<◌, ◌≤◌, Some, not, position, refl, bytes_eq, length, IfOk, IfErr};
+ghost use Rattle.std.specs.Prelude.{◌≡◌, ◌<◌, Some, not, position, refl, bytes_eq, IfOk, IfErr};
 ghost use Rattle.std.specs.Ordering.{nat_cmp};
 ghost use Rattle.std.specs.Cmp.{partial_equiv_from_equiv};
 ghost use Rattle.std.specs.Cmp.Lexicographic.{slice_cmp, nat_list_eq_equiv, nat_list_cmp_total, texts_ties, texts_po};
 ghost use Rattle.cp_base.specs.Names.{IsName, IsNameFault, is_name_byte, name_fault};
 
+use crate::limits::MOST_NAME;
 use std::alloc::{AllocError, Global};
 use std::cmp::Ordering;
 use std::marker::Model;
@@ -40,8 +41,6 @@ impl Model for Name {
     ghost invariant = { λ name. name_fault name.bytes.items ≡ None };
 }
 
-const MOST: usize = 64;
-
 fn is_name_byte(byte: u8) -> bool
     ensures { result ≡ is_name_byte byte }
 {
@@ -60,8 +59,8 @@ fn name_fault(bytes: &[u8]) -> Option<usize>
     if let Some(place) = first_foreign_byte(bytes) {
         return Some(place);
     }
-    if bytes.len() > MOST {
-        return Some(MOST);
+    if bytes.len() > MOST_NAME as usize {
+        return Some(MOST_NAME as usize);
     }
     if bytes.is_empty() {
         return Some(0);

@@ -4,7 +4,7 @@ use Rattle.hex.specs.Hex.{IsBytes, decode_of, encode_lower, encode_with}
 use Rattle.hex.specs.declared.error.FromHexError.{FromHexError}
 use Rattle.hex.proofs.HexLemmas.{decode_of-encode_lower, decode_of-ok}
 use Rattle.cp_grammar.specs.Words.{same_bytes}
-use Rattle.cp_grammar.proofs.WordLaws.{exact_bytes}
+use Rattle.cp_grammar.specs.WordLaws.{exact_bytes}
 use Rattle.cp_op_values.specs.Values.{hex_text}
 use Rattle.cp_call_words.specs.Values.{decoded, hex_bytes}
 use Rattle.cp_call_words.proofs.SignedWords.{same_self}

@@ -9,7 +9,7 @@ use Rattle.std.proofs.lemmas.Bool.{eq-eqb, le-ltb, lt-ltb, ltb-true}
 use Rattle.std.proofs.lemmas.Bool.Decides.{nat_tests}
 use Rattle.cp_base.specs.Decimals.{ReadsSigned}
 use Rattle.cp_grammar.specs.Words.{same_bytes}
-use Rattle.cp_grammar.proofs.WordLaws.{exact_bytes}
+use Rattle.cp_grammar.specs.WordLaws.{exact_bytes}
 use Rattle.cp_call_words.specs.Values.{is_own_text, is_long}
 
 pub same_self : (xs : List ℕ) → same_bytes xs xs ≡ true

@@ -6,8 +6,8 @@ use Rattle.cp_codec.specs.Exact.{IsByte}
 use Rattle.cp_grammar.specs.Grammar.{Grammar, variant}
 use Rattle.cp_grammar.specs.Lawful.{IsLawful}
 use Rattle.cp_grammar.specs.Words.{Token, token, keyword}
-use Rattle.cp_grammar.proofs.Laws.{AreCases, enum_lawful}
-use Rattle.cp_grammar.proofs.WordLaws.{lawful_text, token_lawful, with_keyword}
+use Rattle.cp_grammar.specs.Laws.{AreCases, enum_lawful}
+use Rattle.cp_grammar.specs.WordLaws.{lawful_text, token_lawful, with_keyword}
 use Rattle.cp_op_values.specs.Values.{kind_text}
 use Rattle.cp_op_values.specs.declared.kind.Kind.{Kind}
 use Rattle.cp_op_values.specs.declared.kind.Kind.TheVariants as kinds

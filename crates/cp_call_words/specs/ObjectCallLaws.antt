@@ -5,8 +5,8 @@ use Rattle.cp_codec.specs.Exact.{IsByte}
 use Rattle.cp_grammar.specs.Grammar.{Grammar, FitsOf, variant}
 use Rattle.cp_grammar.specs.Lawful.{IsLawful}
 use Rattle.cp_grammar.specs.Words.{Token, token}
-use Rattle.cp_grammar.proofs.Laws.{AreCases, variant_lawful, enum_lawful, then_lawful}
-use Rattle.cp_grammar.proofs.WordLaws.{lawful_text, token_lawful, with_keyword_alone}
+use Rattle.cp_grammar.specs.Laws.{AreCases, variant_lawful, enum_lawful, then_lawful}
+use Rattle.cp_grammar.specs.WordLaws.{lawful_text, token_lawful, with_keyword_alone}
 use Rattle.cp_call_words.specs.ValueLaws.{signed_word_lawful, hex_word_lawful, reference_word_lawful}
 use Rattle.cp_call_words.specs.Objects.{object_word}
 use Rattle.cp_call_words.specs.ObjectLaws.{object_word_lawful}

@@ -5,8 +5,8 @@ use Rattle.cp_codec.specs.Exact.{IsByte}
 use Rattle.cp_grammar.specs.Grammar.{checked}
 use Rattle.cp_grammar.specs.Lawful.{IsLawful}
 use Rattle.cp_grammar.specs.Words.{word}
-use Rattle.cp_grammar.proofs.Laws.{mapped_lawful, checked_lawful}
-use Rattle.cp_grammar.proofs.WordLaws.{word_lawful}
+use Rattle.cp_grammar.specs.Laws.{mapped_lawful, checked_lawful}
+use Rattle.cp_grammar.specs.WordLaws.{word_lawful}
 use Rattle.cp_call_words.specs.Objects.{before_at, from_at, object_parted, object_of, object_text, is_object, object_word}
 
 -- bytes are what stands before the first @, and what stands from it on

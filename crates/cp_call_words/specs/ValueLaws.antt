@@ -4,7 +4,7 @@ use Rattle.std.specs.Fmt.{signed_decimal}
 use Rattle.std.specs.Str.Parse.{signed_digits_value}
 use Rattle.cp_codec.specs.Exact.{IsByte}
 use Rattle.cp_grammar.specs.Lawful.{IsLawful}
-use Rattle.cp_grammar.proofs.WordLaws.{lawful_text, texted_lawful}
+use Rattle.cp_grammar.specs.WordLaws.{lawful_text, texted_lawful}
 use Rattle.cp_op_values.specs.Values.{hex_text, reference_text}
 use Rattle.cp_call_words.specs.Values.{is_long, signed_word, member_word, hex_bytes, has_length, hex_word, reference_of, is_reference, reference_word, name_word, group_word}
 

@@ -7,9 +7,10 @@ ghost use Rattle.cp_grammar.specs.Readers.{Reads};
 ghost use Rattle.cp_call_words.specs.Values.{is_own_text, hex_bytes, has_length, hex_word, reference_of, is_reference, reference_word};
 
 use crate::names::is_word;
+use cp_base::limits::MOST_REFERENCE;
 use cp_base::{Items, NoMemory, read_hex};
 use cp_grammar::{Stop, take_word};
-use cp_op_values::{MOST_REFERENCE, append_hex_text, append_reference_text};
+use cp_op_values::{append_hex_text, append_reference_text};
 use std::alloc::Global;
 
 /// Digits of bytes, behind an `x`, are read as these bytes.

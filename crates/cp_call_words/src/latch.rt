@@ -5,9 +5,9 @@ ghost use Rattle.cp_call_words.specs.Apart.{latch_apart};
 use crate::asking::CallWords;
 use crate::{take_between_word, take_milliseconds};
 use cp_base::NoMemory;
+use cp_base::limits::MOST_COUNT;
 use cp_events::LatchCall;
 use cp_grammar::{LINE, SPACE, Stop, append_number_word, append_word, is_token};
-use cp_op_values::MOST_COUNT;
 use std::alloc::Global;
 
 impl CallWords for LatchCall {

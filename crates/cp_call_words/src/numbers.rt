@@ -5,9 +5,9 @@ ghost use Rattle.std.specs.Str.Parse.{signed_digits_value};
 ghost use Rattle.cp_grammar.specs.Readers.{Reads};
 ghost use Rattle.cp_call_words.specs.Values.{between_word, is_own_text, is_long, signed_word, milliseconds, permits_word, index_word, member_word};
 
+use cp_base::limits::{LAST_NUMBER, MOST_MEMBER, MOST_PERMITS};
 use cp_base::{MemberNo, NoMemory, read_signed, write_signed};
-use cp_grammar::{MOST_INDEX, Stop, append_number_word, take_number_word, take_word};
-use cp_op_values::{MOST_MEMBER, MOST_PERMITS};
+use cp_grammar::{Stop, append_number_word, take_number_word, take_word};
 
 /// A decimal number from `least` to `most`, and the end after it.
 pub fn take_between_word(bytes: &[u8], end: u8, least: u64, most: u64) -> Result<(u64, &[u8]), Stop>
@@ -42,7 +42,7 @@ pub fn take_permits_word(bytes: &[u8], end: u8) -> Result<(u32, &[u8]), Stop>
 pub fn take_index_word(bytes: &[u8], end: u8) -> Result<(u64, &[u8]), Stop>
     ensures { Reads result ((index_word end).reading bytes.now) }
 {
-    take_number_word(bytes, end, MOST_INDEX)
+    take_number_word(bytes, end, LAST_NUMBER)
 }
 
 /// The number of a member, and the end after it.

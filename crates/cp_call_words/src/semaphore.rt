@@ -6,9 +6,9 @@ ghost use Rattle.cp_call_words.specs.Apart.{sem_apart};
 use crate::asking::CallWords;
 use crate::{take_between_word, take_milliseconds, take_permits_word};
 use cp_base::NoMemory;
+use cp_base::limits::MOST_PERMITS;
 use cp_events::SemCall;
 use cp_grammar::{LINE, SPACE, Stop, append_number_word, append_word, is_token};
-use cp_op_values::MOST_PERMITS;
 use std::alloc::Global;
 
 /// What follows the word `try`.

@@ -56,21 +56,11 @@ impl ClientOut {
     }
 
     /// Nothing again, in the memory that there is.
-    pub fn clear(&mut self, alloc: Global)
+    pub fn clear(&mut self)
         ensures { self.new ≡ record { asked = []; opened = []; returns = [] } }
     {
-        empty(alloc, &mut self.asked);
-        empty(alloc, &mut self.opened);
-        empty(alloc, &mut self.returns);
+        self.asked.clear();
+        self.opened.clear();
+        self.returns.clear();
     }
-}
-
-/// Empties a list.
-fn empty<T: Drop>(alloc: Global, items: &mut Items<T>)
-    ensures { items.new ≡ [] }
-{
-    if items.is_empty() {
-        return;
-    }
-    *items = Items::new(alloc);
 }

@@ -11,6 +11,6 @@ mod user_op;
 pub use effects::{Effects, Ending, Ignored, Opened, Return};
 pub use event::Event;
 pub use object::Object;
-pub use plan::{Groups, HoldLimit, Plan, Reads};
+pub use plan::{Groups, HoldLimit, Plan, ReadsBy};
 pub use schedule::{Line, Schedule};
 pub use user_op::{GroupCall, LatchCall, LockCall, LongCall, RefCall, SemCall, UserOp};

@@ -13,7 +13,7 @@ pub enum Groups {
 
 /// How members answer reads.
 #[derive(Clone, Copy, Debug, PartialEq, Eq)]
-pub enum Reads {
+pub enum ReadsBy {
     /// By an entry of the log, as every other operation.
     Entry,
     /// By a round of messages in which the leader is confirmed.
@@ -41,5 +41,5 @@ pub struct Plan {
     pub groups: Option<Groups>,
     /// At most 16, of different locks.
     pub limits: Items<HoldLimit>,
-    pub reads: Option<Reads>,
+    pub reads: Option<ReadsBy>,
 }

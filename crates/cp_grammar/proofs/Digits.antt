@@ -4,7 +4,7 @@ use Rattle.std.specs.Fmt.{decimal}
 use Rattle.std.specs.Str.Parse.{digits_value}
 use Rattle.std.proofs.lemmas.Fmt.{decimal_digit}
 use Rattle.cp_grammar.specs.Words.{is_decimal, same_bytes}
-use Rattle.cp_grammar.proofs.WordLaws.{written}
+use Rattle.cp_grammar.specs.WordLaws.{written}
 
 -- A digit is the decimal of its number.
 digit : (d : ℕ) → 48 ≤ d → d ≤ 57 → (is_decimal (d ∷ []) ≡ true) × (d - 48 ≡ digits_value 10 (d ∷ []))

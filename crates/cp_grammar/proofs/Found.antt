@@ -4,7 +4,7 @@ use Rattle.std.specs.Prelude.{IfOk, ℕ}
 use Rattle.std.specs.List.{AllByRecursion}
 use Rattle.cp_grammar.specs.Grammar.{Grammar, whole}
 use Rattle.cp_grammar.specs.Lawful.{IsLawful}
-use Rattle.cp_grammar.proofs.Laws.{whole_takes}
+use Rattle.cp_grammar.specs.Laws.{whole_takes}
 use Rattle.cp_grammar.specs.Readers.{Tells}
 use Rattle.cp_grammar.specs.declared.stop.ReadError.{ReadError}
 

@@ -1,7 +1,3 @@
-pub mod Laws
-pub mod ListLaws
-pub mod FieldLaws
-pub mod WordLaws
 pub mod Found
 pub mod ItemLoop
 pub mod LineLoop

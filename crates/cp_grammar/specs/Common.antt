@@ -7,13 +7,14 @@ use Rattle.cp_base.specs.declared.identifier.ThreadNo.{ThreadNo}
 use Rattle.cp_base.specs.declared.identifier.GroupId.{GroupId}
 use Rattle.cp_base.specs.declared.identifier.ClientId.{ClientId}
 use Rattle.cp_base.specs.declared.identifier.Invocation.{Invocation}
+use Rattle.cp_base.specs.declared.limits.TheConstants.{LAST_NUMBER, MOST_MEMBER, MOST_NAME, MOST_THREAD}
 use Rattle.cp_grammar.specs.Grammar.{Grammar, tokens, checked, ◌then◌, mapped}
 use Rattle.cp_grammar.specs.Lists.{listed}
 use Rattle.cp_grammar.specs.Fields.{byte, number, at_least, bytes}
 
 -- terms, indexes, groups, sessions and their versions, restart numbers, attempts, rounds, numbers of calls
 unfoldable pub index : Grammar ℕ ℕ
-index = number w64 (2 ^ 62)
+index = number w64 LAST_NUMBER
 
 -- two indexes, as a session with its version
 unfoldable pub index_pair : Grammar ℕ (ℕ × ℕ)
@@ -25,18 +26,18 @@ is_none (Some place) = false
 
 -- bytes that are a name
 unfoldable pub name : Grammar ℕ (List ℕ)
-name = checked (bytes 64) (λ text. is_none (name_fault text))
+name = checked (bytes MOST_NAME) (λ text. is_none (name_fault text))
 
 unfoldable pub group_id : Grammar ℕ GroupId
 group_id = mapped (λ n. record { 0 = n }) (λ g. g.0) index
 
 -- from 0 to 8
 unfoldable pub thread_no : Grammar ℕ ThreadNo
-thread_no = mapped (λ n. record { 0 = n }) (λ t. t.0) (byte 8)
+thread_no = mapped (λ n. record { 0 = n }) (λ t. t.0) (byte MOST_THREAD)
 
 -- from 1 to 9
 unfoldable pub member_no : Grammar ℕ MemberNo
-member_no = mapped (λ n. record { 0 = n }) (λ m. m.0) (at_least 1 (byte 9))
+member_no = mapped (λ n. record { 0 = n }) (λ m. m.0) (at_least 1 (byte MOST_MEMBER))
 
 -- any sixteen bytes
 unfoldable pub client_id : Grammar ℕ ClientId
@@ -55,7 +56,7 @@ last_number ns = or_zero (slice_get ns (length ns - 1))
 
 -- a member's number, above those before it, of at most 9
 unfoldable pub member_after : List ℕ → Grammar ℕ ℕ
-member_after before = checked (byte 9) (λ n. nat_lt (last_number before) n)
+member_after before = checked (byte MOST_MEMBER) (λ n. nat_lt (last_number before) n)
 
 -- members by rising number, one at least
 unfoldable pub members : Grammar ℕ (List ℕ)

@@ -3,7 +3,7 @@ use Rattle.std.specs.Prelude.{ℕ, List}
 use Rattle.cp_codec.specs.Exact.{IsByte}
 use Rattle.cp_grammar.specs.Lawful.{IsLawful}
 use Rattle.cp_grammar.specs.Common.{index, index_pair, name, group_id, thread_no, member_no, client_id, invocation, member_after, members}
-use Rattle.cp_grammar.proofs.FieldLaws.{lawful}
+use Rattle.cp_grammar.specs.FieldLaws.{lawful}
 
 pub index_lawful : IsLawful IsByte index
 unfolding index

@@ -3,6 +3,10 @@ pub mod Lists
 pub mod Fields
 pub mod Words
 pub mod Lawful
+pub mod Laws
+pub mod ListLaws
+pub mod FieldLaws
+pub mod WordLaws
 pub mod Readers
 pub mod Common
 pub mod CommonLaws

@@ -10,27 +10,19 @@ use crate::lists::{Item, append_list, take_list};
 use crate::spelled::Spelled;
 use crate::stop::Stop;
 use crate::writing::{append_array, append_bytes, append_u8, append_u64};
+use cp_base::limits::{LAST_NUMBER, MOST_MEMBER, MOST_NAME, MOST_THREAD};
 use cp_base::{
     ClientId, GroupId, Invocation, Items, MemberNo, Name, NameError, NoMemory, ThreadNo,
 };
 use std::alloc::Global;
 use uuid::Uuid;
 
-/// The most that a term, an index, a session or a number of a call may be.
-pub const MOST_INDEX: u64 = 1 << 62;
-
-const MOST_NAME: u32 = 64;
-
-const MOST_THREAD: u8 = 8;
-
-const MOST_MEMBER: u8 = 9;
-
 /// A term, an index, a session or a number of a call: at most 2^62.
 #[tactic(auto, unfolding(crate::specs::Common::index))]
 pub fn take_index(bytes: &[u8]) -> Result<(u64, &[u8]), Stop>
     ensures { Reads result (index.reading bytes.now) }
 {
-    take_u64(bytes, MOST_INDEX)
+    take_u64(bytes, LAST_NUMBER)
 }
 
 /// Appends a number of at most 2^62.

@@ -1,4 +1,6 @@
-//! Grammars put together from smaller ones, and their laws, each proved once. Definitions alone, in `specs`.
+//! Grammars put together from smaller ones, and their laws, each proved once (in `specs`, where what a type promises may cite
+//! them); and readers and writers of what grammars spell. A type says which grammar is its own, reads a value at the front of
+//! bytes, and appends its spelling; the rest is done here once for all types.
 #![tactic(auto)]
 
 mod common;
@@ -10,7 +12,7 @@ mod stop;
 mod words;
 mod writing;
 
-pub use common::{MOST_INDEX, append_index, append_members, take_index, take_members};
+pub use common::{append_index, append_members, take_index, take_members};
 pub use fields::{
     take_array, take_bytes, take_flag, take_i64, take_mark, take_u8, take_u32, take_u32_between,
     take_u64,

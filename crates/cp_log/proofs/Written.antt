@@ -3,7 +3,7 @@ use Rattle.std.proofs.Common.{◌≡◌, ◌≤◌, ◌<◌, ◌+◌, ◌^◌, i
 use Rattle.std.specs.Prelude.{Bool, true, false, ◌⊎◌, ◌↔◌, Result, Ok, Err, IsTrue, IsErrOf, IfErr, OnOk, is_ok, if◌then◌else◌}
 use Rattle.std.proofs.lemmas.Bool.{cases_lt}
 use Rattle.cp_grammar.specs.Grammar.{whole}
-use Rattle.cp_grammar.proofs.Laws.{whole_again}
+use Rattle.cp_grammar.specs.Laws.{whole_again}
 use Rattle.cp_codec.specs.Exact.{IsByte}
 use Rattle.cp_disk.specs.Images.{Only}
 use Rattle.cp_journal.specs.Moments.{LeavesOnly}

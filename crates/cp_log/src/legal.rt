@@ -1,12 +1,12 @@
 //! Which part may follow.
-ghost use Rattle.std.specs.Prelude.{◌≡◌, ℕ, List, length, IfOk};
+ghost use Rattle.std.specs.Prelude.{◌≡◌, List, length, IfOk};
 ghost use Rattle.cp_parts.specs.declared.log_entry.LogEntry.{LogEntry as Entry};
 ghost use Rattle.cp_log_rules.specs.Legal as legal;
 ghost use Rattle.cp_log_rules.specs.Durable.{group_at};
 
 use crate::durable::Durable;
 use cp_base::NoMemory;
-use cp_grammar::MOST_INDEX;
+use cp_base::limits::LAST_NUMBER;
 use cp_parts::{LogEntry, Part, head_of_snapshot};
 use std::alloc::Global;
 
@@ -43,7 +43,7 @@ impl Durable {
                 row.term <= term
                     && row.base <= after
                     && after <= row.last()
-                    && count as u64 <= MOST_INDEX - after
+                    && count as u64 <= LAST_NUMBER - after
             }
             None => false,
         }

@@ -4,5 +4,5 @@
 mod machine;
 mod timer;
 
-pub use machine::Machine;
+pub use machine::{Answers, Machine, RestoreError};
 pub use timer::{Timed, Timer};

@@ -1,7 +1,8 @@
 //! What a group of members applies its entries to.
-ghost use Rattle.std.specs.Prelude.{◌≡◌, ◌++◌, ◌<◌, ◌≤◌, ◌^◌, [], ℕ, List, length, Option, Some, Result, Err, OnOk, OnErr, IfOk};
+ghost use Rattle.std.specs.Prelude.{◌≡◌, ◌++◌, ◌<◌, ◌≤◌, [], ℕ, List, length, Option, Some, Result, Err, OnOk, OnErr, IfOk};
 ghost use Rattle.std.specs.List.{slice_get};
 ghost use Rattle.cp_base.specs.declared.identifier.GroupId.{GroupId};
+ghost use Rattle.cp_base.specs.declared.limits.TheConstants.{LAST_NUMBER};
 ghost use Rattle.cp_answers.specs.declared.answer.Answer.{Answer};
 ghost use Rattle.cp_grammar.specs.Grammar.{whole};
 ghost use Rattle.cp_ops.specs.Entries.{entry_grammar};
@@ -13,6 +14,12 @@ use cp_answers::Answer;
 use cp_base::{GroupId, Invocation, Items, NoMemory};
 use cp_grammar::ReadError;
 use std::alloc::Global;
+
+/// Why bytes are no snapshot.
+pub type RestoreError = ReadError;
+
+/// Answers with the invocations that they are given to.
+pub type Answers = Items<(Invocation, Answer)>;
 
 /// What a group of members applies its entries to, one after another. Contracts see what a machine stands for, its view.
 /// After want of memory in `apply` a machine is only dropped.
@@ -43,13 +50,8 @@ pub trait Machine: Sized + Drop {
         ensures { IfOk result (λ machine. view machine ≡ first group members size) };
 
     /// Applies the entry of this index, and appends the answers that it gives.
-    fn apply(
-        &mut self,
-        index: u64,
-        entry: &[u8],
-        out: &mut Items<(Invocation, Answer)>,
-    ) -> Result<(), NoMemory>
-        requires { index ≤ 2 ^ 62 }
+    fn apply(&mut self, index: u64, entry: &[u8], out: &mut Answers) -> Result<(), NoMemory>
+        requires { index ≤ LAST_NUMBER }
         ensures view { OnOk result (view self.new ≡ (step (view self.old) index entry.now).view) }
         ensures answers { OnOk result (out.new ≡ out.old ++ (step (view self.old) index entry.now).answers) }
         // Each answer that is given can be spelled.
@@ -72,7 +74,7 @@ pub trait Machine: Sized + Drop {
         ensures err { OnErr result (out.new.items ≡ out.old.items) };
 
     /// The machine of a snapshot, or why the bytes are none.
-    fn restore(alloc: Global, bytes: &[u8]) -> Result<Self, ReadError>
+    fn restore(alloc: Global, bytes: &[u8]) -> Result<Self, RestoreError>
         ensures { Restores view result (restored bytes.now) };
 
     /// What a read is answered without an entry. Bytes that spell no such read are answered by none.

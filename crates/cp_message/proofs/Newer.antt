@@ -1,6 +1,7 @@
 -- What has a spelling in a version has one in the newest.
 use Rattle.std.proofs.Common.{ℕ, ◌≤◌, Bool, true, false, arith}
 use Rattle.std.specs.Prelude.{if◌then◌else◌, ◌==◌}
+use Rattle.cp_base.specs.declared.limits.TheConstants.{MOST_ENTRY, OLDER_MOST_ENTRY}
 use Rattle.cp_message.proofs.Larger.{append_fits}
 use Rattle.cp_message.specs.declared.request.Request.{Request}
 use Rattle.cp_message.specs.declared.request.Reply.{Reply}
@@ -48,7 +49,7 @@ kinds_below : (older : Bool) → (if older then 16 else 18) ≤ 18
 kinds_below true = omega arith
 kinds_below false = omega arith
 
-entries_below : (older : Bool) → (if older then 4096 else 8192) ≤ 8192
+entries_below : (older : Bool) → (if older then OLDER_MOST_ENTRY else MOST_ENTRY) ≤ MOST_ENTRY
 entries_below true = omega arith
 entries_below false = omega arith
 
@@ -57,4 +58,4 @@ unfolding fields headed
 newest_fits version x fits =
     let kind : kind_of x.body ≤ 18 = omega (arith, fits.0.0, kinds_below (version == 1)) in
     let parts = fits.1.0 in
-    ((kind, fits.0.1), ((parts.0, (parts.1.0, body_fits (most_entry version) 8192 (entries_below (version == 1)) x.body parts.1.1)), fits.1.1))
+    ((kind, fits.0.1), ((parts.0, (parts.1.0, body_fits (most_entry version) MOST_ENTRY (entries_below (version == 1)) x.body parts.1.1)), fits.1.1))

@@ -3,7 +3,7 @@ use Rattle.std.proofs.Common.{◌≡◌, ℕ, List, Result, Ok, ap, sym, refl, a
 use Rattle.std.specs.List.{AllByRecursion}
 use Rattle.cp_codec.specs.Exact.{IsByte}
 use Rattle.cp_grammar.specs.Grammar.{whole}
-use Rattle.cp_grammar.proofs.Laws.{ok_is, whole_again, whole_takes}
+use Rattle.cp_grammar.specs.Laws.{ok_is, whole_again, whole_takes}
 use Rattle.cp_grammar.specs.Readers.{Fails}
 use Rattle.cp_grammar.specs.declared.stop.ReadError.{ReadError}
 use Rattle.cp_grammar.specs.declared.stop.ReadError.TheVariants as errors

@@ -1,5 +1,6 @@
 -- Appends: the entries that a leader hands to a follower, and what it is answered.
 use Rattle.std.specs.Prelude.{ℕ, List, [], ◌∷◌, ◌++◌, length}
+use Rattle.cp_base.specs.declared.limits.TheConstants.{MOST_ENTRY}
 use Rattle.cp_grammar.specs.Grammar.{Grammar, mapped, seq, ◌then◌}
 use Rattle.cp_grammar.specs.Fields.{flag}
 use Rattle.cp_grammar.specs.Common.{index, group_id}
@@ -17,7 +18,7 @@ append_within most = mapped
 
 -- the newest form
 abbrev pub append_newest : Grammar ℕ Append
-append_newest = append_within 8192
+append_newest = append_within MOST_ENTRY
 
 unfoldable pub append_reply : Grammar ℕ AppendReply
 append_reply = mapped (λ p. record { group = p.0; term = p.1.0; accepted = p.1.1.0; index = p.1.1.1 })

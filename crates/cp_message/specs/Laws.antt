@@ -1,12 +1,13 @@
 -- The grammars of messages are lawful.
 use Rattle.std.specs.Prelude.{ℕ, ◌<◌, ◌^◌, Bool, true, false, if◌then◌else◌, ◌==◌}
 use Rattle.std.proofs.Common.{arith, refl}
+use Rattle.cp_base.specs.declared.limits.TheConstants.{MOST_ENTRY, OLDER_MOST_ENTRY}
 use Rattle.cp_codec.specs.Exact.{IsByte}
 use Rattle.cp_grammar.specs.Grammar.{◌then◌}
 use Rattle.cp_grammar.specs.Fields.{byte, at_least, bytes}
 use Rattle.cp_grammar.specs.Lawful.{IsLawful}
-use Rattle.cp_grammar.proofs.Laws.{AreCases, with_unit, with_variant, no_cases, mapped_lawful, then_lawful, seq_lawful, keyed_lawful}
-use Rattle.cp_grammar.proofs.FieldLaws.{lawful, bytes_lawful, byte_lawful, at_least_lawful, marked_lawful}
+use Rattle.cp_grammar.specs.Laws.{AreCases, with_unit, with_variant, no_cases, mapped_lawful, then_lawful, seq_lawful, keyed_lawful}
+use Rattle.cp_grammar.specs.FieldLaws.{lawful, bytes_lawful, byte_lawful, at_least_lawful, marked_lawful}
 use Rattle.cp_grammar.specs.Common.{index, group_id, thread_no, client_id, members}
 use Rattle.cp_grammar.specs.CommonLaws.{index_lawful, group_lawful, thread_lawful, client_lawful, member_lawful, members_lawful}
 use Rattle.cp_message.specs.RaftLaws.{vote_request_lawful, vote_reply_lawful, append_lawful, append_reply_lawful, chunk_lawful, snapshot_reply_lawful, confirm_lawful, confirmed_lawful}
@@ -79,7 +80,7 @@ headed_lawful most below kind = mapped_lawful IsByte (address then address then 
     (then_lawful IsByte address address_lawful (address then body_within most kind)
     (then_lawful IsByte address address_lawful (body_within most kind) ((bodies_lawful most below).laws kind))) _ _ (λ _ _. refl)
 
-either_below : (older : Bool) → (if older then 4096 else 8192) < 2 ^ 32
+either_below : (older : Bool) → (if older then OLDER_MOST_ENTRY else MOST_ENTRY) < 2 ^ 32
 either_below true = omega arith
 either_below false = omega arith
 

@@ -1,5 +1,6 @@
 -- A message: its version, its kind, from whom to whom, and what it says.
 use Rattle.std.specs.Prelude.{◌≡◌, ℕ, Bool, if◌then◌else◌, List, ◌++◌, Result, Ok, Err, nat_le, ◌==◌, ◌&&◌, ◌||◌}
+use Rattle.cp_base.specs.declared.limits.TheConstants.{MOST_ENTRY, MOST_MEMBER, OLDER_MOST_ENTRY}
 use Rattle.cp_grammar.specs.Grammar.{Grammar, checked, keyed, mapped, seq, ◌then◌, whole}
 use Rattle.cp_grammar.specs.Fields.{byte, at_least, marked}
 use Rattle.cp_message.specs.Bodies.{kind_of, body_within}
@@ -7,7 +8,7 @@ use Rattle.cp_message.specs.declared.message.Message.{Message}
 
 -- members are 1 to 9, clients 17 to 32
 abbrev pub is_address : ℕ → Bool
-is_address n = (nat_le 1 n && nat_le n 9) || nat_le 17 n
+is_address n = (nat_le 1 n && nat_le n MOST_MEMBER) || nat_le 17 n
 
 unfoldable pub address : Grammar ℕ ℕ
 address = checked (byte 32) is_address
@@ -18,7 +19,7 @@ most_kind version = if version == 1 then 16 else 18
 
 -- the most bytes that entries, operations, answers and refusals have in a version
 abbrev pub most_entry : ℕ → ℕ
-most_entry version = if version == 1 then 4096 else 8192
+most_entry version = if version == 1 then OLDER_MOST_ENTRY else MOST_ENTRY
 
 unfoldable pub headed : ℕ → ℕ → Grammar ℕ Message
 headed most kind = mapped (λ p. record { from = p.0; to = p.1.0; body = p.1.1 }) (λ m. (m.from, (m.to, m.body)))

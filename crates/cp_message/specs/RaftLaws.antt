@@ -1,14 +1,15 @@
 -- The grammars of what members say to each other are lawful.
 use Rattle.std.specs.Prelude.{ℕ, ◌<◌, ◌-◌, ◌^◌, min}
 use Rattle.std.proofs.Common.{arith, refl}
+use Rattle.cp_base.specs.declared.limits.TheConstants.{LAST_NUMBER, MOST_ENTRIES, MOST_ENTRY}
 use Rattle.cp_codec.specs.Exact.{IsByte}
 use Rattle.cp_grammar.specs.Lawful.{IsLawful}
 use Rattle.cp_grammar.specs.Grammar.{◌then◌}
 use Rattle.cp_grammar.specs.Fields.{bytes}
 use Rattle.cp_grammar.specs.Lists.{each}
-use Rattle.cp_grammar.proofs.Laws.{mapped_lawful, then_lawful}
-use Rattle.cp_grammar.proofs.ListLaws.{listed_lawful, each_lawful}
-use Rattle.cp_grammar.proofs.FieldLaws.{lawful, bytes_lawful, u32_lawful}
+use Rattle.cp_grammar.specs.Laws.{mapped_lawful, then_lawful}
+use Rattle.cp_grammar.specs.ListLaws.{listed_lawful, each_lawful}
+use Rattle.cp_grammar.specs.FieldLaws.{lawful, bytes_lawful, u32_lawful}
 use Rattle.cp_grammar.specs.Common.{index}
 use Rattle.cp_grammar.specs.CommonLaws.{index_lawful, group_lawful}
 use Rattle.cp_message.specs.Votes.{vote_request, vote_reply}
@@ -30,7 +31,7 @@ unfolding log_entry
 log_entry_lawful most below = mapped_lawful IsByte (index then bytes most) (then_lawful IsByte index index_lawful (bytes most) (bytes_lawful most below)) _ _ (λ _ _. refl)
 
 entry_count_lawful : (previous : ℕ) → IsLawful IsByte (entry_count previous)
-entry_count_lawful previous = u32_lawful (min 100 (2 ^ 62 - previous)) (omega arith)
+entry_count_lawful previous = u32_lawful (min MOST_ENTRIES (LAST_NUMBER - previous)) (omega arith)
 
 pub entries_lawful : (most : ℕ) → most < 2 ^ 32 → (previous : ℕ) → IsLawful IsByte (entries_after most previous)
 unfolding entries_after
@@ -41,7 +42,7 @@ unfolding append_within
 append_lawful most below = search (lawful, group_lawful, index_lawful, entries_lawful most below) depth 14
 
 pub append_newest_lawful : IsLawful IsByte append_newest
-append_newest_lawful = append_lawful 8192 (omega arith)
+append_newest_lawful = append_lawful MOST_ENTRY (omega arith)
 
 pub append_reply_lawful : IsLawful IsByte append_reply
 unfolding append_reply

@@ -1,6 +1,7 @@
 -- Snapshots, which go in chunks, and what the sender is answered.
 use Rattle.std.specs.Prelude.{ℕ, ◌-◌, ◌^◌, Bool, true, false, List, [], ◌∷◌, ◌++◌, codes}
 use Rattle.std.specs.Int.{w32}
+use Rattle.cp_base.specs.declared.limits.TheConstants.{MOST_CHUNK}
 use Rattle.cp_grammar.specs.Grammar.{Grammar, mapped, ◌then◌}
 use Rattle.cp_grammar.specs.Fields.{number, flag, bytes}
 use Rattle.cp_grammar.specs.Common.{index, group_id}
@@ -15,7 +16,7 @@ unfoldable pub chunk_grammar : Grammar ℕ Chunk
 chunk_grammar = mapped
     (λ p. record { group = p.0; term = p.1.0; index = p.1.1.0; offset = p.1.1.1.0; last = p.1.1.1.1.0; bytes = p.1.1.1.1.1 })
     (λ c. (c.group, (c.term, (c.index, (c.offset, (c.last, c.bytes))))))
-    (group_id then index then index then any_u32 then flag then bytes 32768)
+    (group_id then index then index then any_u32 then flag then bytes MOST_CHUNK)
 
 unfoldable pub snapshot_reply : Grammar ℕ SnapshotReply
 snapshot_reply = mapped

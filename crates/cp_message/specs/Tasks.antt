@@ -3,6 +3,7 @@ use Rattle.std.specs.Prelude.{ℕ, ◌-◌, ◌^◌, List, [], ◌∷◌, ◌++�
 use Rattle.std.specs.Int.{w64}
 use Rattle.cp_base.specs.declared.identifier.GroupId.{GroupId}
 use Rattle.cp_base.specs.declared.identifier.MemberNo.{MemberNo}
+use Rattle.cp_base.specs.declared.limits.TheConstants.{MOST_MEMBER}
 use Rattle.cp_grammar.specs.Grammar.{Grammar, always, keyed, variant, case, no_case, ◌then◌}
 use Rattle.cp_grammar.specs.Fields.{byte, number}
 use Rattle.cp_grammar.specs.Common.{index, member_no, members}
@@ -30,7 +31,7 @@ unfoldable pub task_grammar : Grammar ℕ Task
 task_grammar = keyed task_tag (byte 2)
     (case 0 (always tasks.Destroy)
     (case 1 (always tasks.End)
-    (case 2 (variant (λ p. tasks.Move p.0 p.1.0 p.1.1) task_move (any_plan then byte 9 then member_no))
+    (case 2 (variant (λ p. tasks.Move p.0 p.1.0 p.1.1) task_move (any_plan then byte MOST_MEMBER then member_no))
     no_case)))
 
 abbrev pub task_reply_tag : TaskReply → ℕ

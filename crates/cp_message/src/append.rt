@@ -1,11 +1,11 @@
 //! Appends: the entries that a leader hands to a follower, and what it is answered.
-ghost use Rattle.std.specs.Prelude.{◌≡◌, ◌++◌, OnOk};
 ghost use Rattle.cp_grammar.specs.Readers.{Reads};
 ghost use Rattle.cp_message.specs.RaftLaws.{append_newest_lawful, append_reply_lawful};
 ghost use Rattle.cp_message.specs.Appends.{append_within, append_newest, append_reply};
 
-use crate::entries::{LogEntry, MOST_ENTRY, take_entries_after};
+use crate::entries::{LogEntry, take_entries_after};
 use crate::text::{append_numbers_text, append_yes_text};
+use cp_base::limits::MOST_ENTRY;
 use cp_base::{GroupId, Items, NoMemory, Text};
 use cp_grammar::{Spelled, Stop, append_flag, append_index, append_list, take_flag, take_index};
 use std::alloc::Global;

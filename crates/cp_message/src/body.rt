@@ -1,6 +1,7 @@
 //! What a message says.
 ghost use Rattle.std.specs.Prelude.{◌≡◌, ◌++◌, OnOk};
 ghost use Rattle.cp_base.specs.Text.{Grew};
+ghost use Rattle.cp_base.specs.declared.limits.TheConstants.{MOST_ENTRY};
 ghost use Rattle.cp_grammar.specs.Readers.{Reads};
 ghost use Rattle.cp_message.specs.Bodies.{kind_of, body_within, body_text};
 
@@ -173,8 +174,8 @@ impl Body {
     /// Appends the one spelling.
     #[tactic(auto, unfolding(crate::specs::Bodies::body_within))]
     pub fn append(&self, out: &mut Vec<u8>) -> Result<(), NoMemory>
-        requires { (body_within 8192 (kind_of self.now)).Fits self.now }
-        ensures { OnOk result (out.new.items ≡ out.old.items ++ (body_within 8192 (kind_of self.now)).spelling self.now) }
+        requires { (body_within MOST_ENTRY (kind_of self.now)).Fits self.now }
+        ensures { OnOk result (out.new.items ≡ out.old.items ++ (body_within MOST_ENTRY (kind_of self.now)).spelling self.now) }
     {
         match self {
             Body::Hello => {}

@@ -1,24 +1,15 @@
 //! Entries of a log, as members hand them to each other.
-ghost use Rattle.std.specs.Prelude.{◌≡◌, ◌++◌, ◌-◌, ◌^◌, [], min, OnOk};
+ghost use Rattle.std.specs.Prelude.{◌≡◌, ◌-◌, [], min};
+ghost use Rattle.cp_base.specs.declared.limits.TheConstants.{MOST_ENTRY};
 ghost use Rattle.cp_grammar.specs.Fields.{bytes as bytes_field};
 ghost use Rattle.cp_grammar.specs.Lists.{each, items_reading};
 ghost use Rattle.cp_grammar.specs.Readers.{Reads};
 ghost use Rattle.cp_message.specs.Entries.{log_entry, entries_after};
 
+use cp_base::limits::{LAST_NUMBER, MOST_ENTRIES, MOST_ENTRY};
 use cp_base::{Items, NoMemory};
-use cp_grammar::{
-    Item, MOST_INDEX, Stop, append_bytes, append_index, take_bytes, take_index, take_u32,
-};
+use cp_grammar::{Item, Stop, append_bytes, append_index, take_bytes, take_index, take_u32};
 use std::alloc::Global;
-
-/// The most bytes that an entry has.
-pub const MOST_ENTRY: u32 = 8192;
-
-/// The most bytes that an entry had in the first version of journals, messages and snapshots.
-pub const OLDER_MOST_ENTRY: u32 = 4096;
-
-/// The most entries that are handed over at once.
-pub const MOST_ENTRIES: u64 = 100;
 
 /// An entry as it stands in a log: its term, and its bytes.
 #[derive(Clone, Debug, PartialEq, Eq, Drop)]
@@ -53,7 +44,7 @@ impl LogEntry {
 }
 
 impl Item for LogEntry {
-    ghost item = { each (log_entry 8192) };
+    ghost item = { each (log_entry MOST_ENTRY) };
 
     #[tactic(auto, unfolding(cp_grammar::specs::Lists::each))]
     fn take_item<'a>(
@@ -93,9 +84,11 @@ pub fn take_entries(
 
 /// How many entries may follow an index: it is to stay at most 2^62.
 fn most_entries_after(previous: u64) -> u32
-    ensures { result ≡ min 100 (2 ^ 62 - previous) }
+    ensures { result ≡ min MOST_ENTRIES (LAST_NUMBER - previous) }
 {
-    MOST_INDEX.saturating_sub(previous).min(MOST_ENTRIES) as u32
+    LAST_NUMBER
+        .saturating_sub(previous)
+        .min(u64::from(MOST_ENTRIES)) as u32
 }
 
 /// A count, and so many entries, which may follow this index; and the bytes after them.

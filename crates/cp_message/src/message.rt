@@ -1,15 +1,15 @@
 //! A message: from whom, to whom, and what it says.
-ghost use Rattle.std.specs.Prelude.{◌≡◌, ◌++◌, ℕ, List, Ok, OnOk, OnErr, IfOk};
+ghost use Rattle.std.specs.Prelude.{◌≡◌, ◌++◌, ℕ, Ok, OnOk, OnErr, IfOk};
 ghost use Rattle.cp_grammar.specs.Grammar.{whole};
 ghost use Rattle.cp_grammar.specs.Fields.{byte, at_least};
 ghost use Rattle.cp_grammar.specs.Readers.{Reads, Tells};
-ghost use Rattle.cp_message.specs.Bodies.{kind_of, body_text};
+ghost use Rattle.cp_message.specs.Bodies.{body_text};
 ghost use Rattle.cp_message.specs.Messages.{is_address, address, most_kind, most_entry, headed, fields, message_grammar, any_version, Spells, message_told, NoMessageBeginsAnother};
 ghost use Rattle.cp_message.specs.Laws.{message_lawful};
 
 use crate::body::Body;
-use crate::{MOST_ENTRY, OLDER_MOST_ENTRY};
 use cp_base::NoMemory;
+use cp_base::limits::{MOST_ENTRY, OLDER_MOST_ENTRY};
 use cp_grammar::{ReadError, Spelled, Stop, append_u8, take_mark, take_u8};
 use std::alloc::Global;
 

@@ -1,6 +1,7 @@
 //! What clients ask of members, and what they are answered. Operations, answers and refusals stand as their bytes.
 ghost use Rattle.std.specs.Prelude.{◌≡◌, ◌++◌, OnOk};
 ghost use Rattle.cp_base.specs.Text.{Grew};
+ghost use Rattle.cp_base.specs.declared.limits.TheConstants.{MOST_ENTRY};
 ghost use Rattle.cp_grammar.specs.Readers.{Reads};
 ghost use Rattle.cp_message.specs.Requests.{request_within, reply_within, request_text, reply_text};
 
@@ -73,8 +74,8 @@ impl Request {
     /// Appends the one spelling.
     #[tactic(auto, unfolding(crate::specs::Requests::request_within))]
     pub fn append(&self, out: &mut Vec<u8>) -> Result<(), NoMemory>
-        requires { (request_within 8192).Fits self.now }
-        ensures { OnOk result (out.new.items ≡ out.old.items ++ (request_within 8192).spelling self.now) }
+        requires { (request_within MOST_ENTRY).Fits self.now }
+        ensures { OnOk result (out.new.items ≡ out.old.items ++ (request_within MOST_ENTRY).spelling self.now) }
     {
         self.thread.append(out)?;
         append_index(self.attempt, out)?;
@@ -133,8 +134,8 @@ impl Reply {
     /// Appends the one spelling.
     #[tactic(auto, unfolding(crate::specs::Requests::reply_within))]
     pub fn append(&self, out: &mut Vec<u8>) -> Result<(), NoMemory>
-        requires { (reply_within 8192).Fits self.now }
-        ensures { OnOk result (out.new.items ≡ out.old.items ++ (reply_within 8192).spelling self.now) }
+        requires { (reply_within MOST_ENTRY).Fits self.now }
+        ensures { OnOk result (out.new.items ≡ out.old.items ++ (reply_within MOST_ENTRY).spelling self.now) }
     {
         self.thread.append(out)?;
         append_index(self.attempt, out)?;

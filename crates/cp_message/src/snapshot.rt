@@ -6,15 +6,13 @@ ghost use Rattle.cp_message.specs.Snapshots.{chunk_grammar, snapshot_reply, last
 
 use crate::entries::take_copy;
 use crate::text::append_numbers_text;
+use cp_base::limits::MOST_CHUNK;
 use cp_base::{GroupId, Items, NoMemory, Text};
 use cp_grammar::{
     Spelled, Stop, append_bytes, append_flag, append_index, append_u32, take_flag, take_index,
     take_u32,
 };
 use std::alloc::Global;
-
-/// The most bytes of a snapshot that one message has.
-pub const MOST_CHUNK: u32 = 32_768;
 
 /// Hands a piece of a snapshot to a follower.
 #[derive(Clone, Debug, PartialEq, Eq, Drop)]

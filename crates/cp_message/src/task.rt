@@ -5,14 +5,13 @@ ghost use Rattle.cp_message.specs.Laws.{task_lawful, task_reply_lawful};
 ghost use Rattle.cp_message.specs.Tasks.{task_grammar, task_reply, start_text, task_words, task_text, moved_text, task_reply_words, task_reply_text};
 
 use crate::{append_members_text, append_numbers_text};
+use cp_base::limits::MOST_MEMBER;
 use cp_base::{GroupId, Items, MemberNo, NoMemory};
 use cp_grammar::{
     Spelled, Stop, append_index, append_members, append_u8, append_u64, take_index, take_members,
     take_u8, take_u64,
 };
 use std::alloc::Global;
-
-const MOST_MEMBER: u8 = 9;
 
 /// What a member is told to do about a group.
 #[derive(Clone, Copy, Debug, PartialEq, Eq)]

@@ -3,11 +3,12 @@ use Rattle.std.specs.Prelude.{◌≡◌, ◌<◌, ◌-◌, ◌^◌, ℕ, nat_lt,
 use Rattle.std.proofs.Common.{refl, arith}
 use Rattle.cp_codec.specs.Exact.{IsByte}
 use Rattle.cp_grammar.specs.Lawful.{IsLawful}
-use Rattle.cp_grammar.proofs.Laws.{enum_lawful, with_unit, with_variant, no_cases, then_lawful}
-use Rattle.cp_grammar.proofs.FieldLaws.{lawful, u32_below, u64_below, byte_lawful}
+use Rattle.cp_grammar.specs.Laws.{enum_lawful, with_unit, with_variant, no_cases, then_lawful}
+use Rattle.cp_grammar.specs.FieldLaws.{lawful, u32_below, u64_below, byte_lawful}
 use Rattle.cp_grammar.specs.Grammar.{◌then◌}
 use Rattle.cp_grammar.specs.Fields.{byte, number}
 use Rattle.std.specs.Int.{w64}
+use Rattle.cp_base.specs.declared.limits.TheConstants.{MOST_REFERENCE}
 use Rattle.cp_grammar.specs.CommonLaws.{index_lawful}
 use Rattle.cp_op_values.specs.Numbers.{permits}
 use Rattle.cp_op_values.specs.Values.{reference}
@@ -37,7 +38,7 @@ ref_op_lawful most below = enum_lawful IsByte (byte 4) ref_op_tag _ (byte_lawful
     (no_cases IsByte ref_op_tag))))))
 
 pub ref_op_newest_lawful : IsLawful IsByte ref_op
-ref_op_newest_lawful = ref_op_lawful 4000 (omega arith)
+ref_op_newest_lawful = ref_op_lawful MOST_REFERENCE (omega arith)
 
 pub lock_op_lawful : IsLawful IsByte lock_op
 unfolding lock_op

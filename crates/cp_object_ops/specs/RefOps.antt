@@ -1,5 +1,6 @@
 -- What may be done to an atomic reference. A reference is null, or bytes.
 use Rattle.std.specs.Prelude.{ℕ, List, Option, Some, None, codes, ◌++◌, ◌∷◌}
+use Rattle.cp_base.specs.declared.limits.TheConstants.{MOST_REFERENCE}
 use Rattle.cp_grammar.specs.Grammar.{Grammar, always, keyed, variant, case, no_case, ◌then◌}
 use Rattle.cp_grammar.specs.Fields.{byte}
 use Rattle.cp_op_values.specs.Values.{reference, value, reference_text}
@@ -40,7 +41,7 @@ ref_op_within most = keyed ref_op_tag (byte 4)
 
 -- the newest form
 abbrev pub ref_op : Grammar ℕ RefOp
-ref_op = ref_op_within 4000
+ref_op = ref_op_within MOST_REFERENCE
 
 abbrev pub ref_op_text : RefOp → List ℕ
 ref_op_text variants.Get = codes "get"

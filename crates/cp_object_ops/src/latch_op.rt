@@ -2,12 +2,13 @@
 ghost use Rattle.cp_object_ops.specs.LatchOps.{latch_op};
 ghost use Rattle.cp_object_ops.specs.Laws.{latch_op_lawful};
 
+use cp_base::limits::MOST_COUNT;
 use cp_base::{NoMemory, Text};
 use cp_grammar::{
     Spelled, Stop, append_index, append_u8, append_u32, take_index, take_mark, take_u8, take_u32,
     take_u32_between,
 };
-use cp_op_values::{MOST_COUNT, append_numbered};
+use cp_op_values::append_numbered;
 use std::alloc::Global;
 
 /// What may be done to a countdown latch.

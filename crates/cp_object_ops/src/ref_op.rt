@@ -3,9 +3,10 @@ ghost use Rattle.cp_object_ops.specs.Laws.{ref_op_newest_lawful};
 ghost use Rattle.cp_object_ops.specs.RefOps.{ref_op_within, ref_op};
 ghost use Rattle.cp_grammar.specs.Readers.{Reads};
 
+use cp_base::limits::MOST_REFERENCE;
 use cp_base::{Items, NoMemory, Text};
 use cp_grammar::{Spelled, Stop, append_u8, take_u8};
-use cp_op_values::{MOST_REFERENCE, append_reference, append_reference_text, take_reference};
+use cp_op_values::{append_reference, append_reference_text, take_reference};
 use std::alloc::Global;
 
 /// What may be done to an atomic reference. A reference is null, or bytes.

@@ -1,11 +1,13 @@
 //! What may be done to a semaphore, with or without sessions. Without, the session is 0.
 ghost use Rattle.cp_object_ops.specs.SemOps.{sem_op};
 ghost use Rattle.cp_grammar.specs.Readers.{Reads};
-ghost use Rattle.std.specs.Prelude.{◌≡◌, ◌++◌, ◌^◌, OnOk};
+ghost use Rattle.std.specs.Prelude.{◌≡◌, ◌++◌, OnOk};
+ghost use Rattle.cp_base.specs.declared.limits.TheConstants.{LAST_NUMBER};
 
+use cp_base::limits::MOST_PERMITS;
 use cp_base::{NoMemory, Text, write_decimal};
 use cp_grammar::{Spelled, Stop, append_u8, append_u32, append_u64, take_u8, take_u32, take_u64};
-use cp_op_values::{MOST_PERMITS, Wish, append_numbered, append_wish};
+use cp_op_values::{Wish, append_numbered, append_wish};
 use std::alloc::Global;
 
 /// What may be done to a semaphore, with or without sessions. Without, the session is 0.
@@ -76,7 +78,7 @@ impl SemOp {
     /// Appends the one spelling, which does not depend on the most that a session may be.
     #[tactic(auto, unfolding(crate::specs::SemOps::sem_op))]
     pub fn append(&self, out: &mut Vec<u8>) -> Result<(), NoMemory>
-        ensures sem { OnOk result (out.new.items ≡ out.old.items ++ (sem_op (2 ^ 62)).spelling self.now) }
+        ensures sem { OnOk result (out.new.items ≡ out.old.items ++ (sem_op LAST_NUMBER).spelling self.now) }
         ensures jsem { OnOk result (out.new.items ≡ out.old.items ++ (sem_op 0).spelling self.now) }
     {
         match self {

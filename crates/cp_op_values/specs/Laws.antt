@@ -2,7 +2,7 @@
 use Rattle.std.specs.Prelude.{◌<◌, ◌^◌, ℕ}
 use Rattle.cp_codec.specs.Exact.{IsByte}
 use Rattle.cp_grammar.specs.Lawful.{IsLawful}
-use Rattle.cp_grammar.proofs.FieldLaws.{lawful, bytes_lawful}
+use Rattle.cp_grammar.specs.FieldLaws.{lawful, bytes_lawful}
 use Rattle.cp_op_values.specs.Numbers.{group_size}
 use Rattle.cp_op_values.specs.Values.{reference, key, value, kind_grammar}
 use Rattle.cp_op_values.specs.Wishes.{wish_grammar}

@@ -1,6 +1,7 @@
 -- Values that operations hold: references, keys and values of maps, kinds of objects. And their texts.
 use Rattle.std.specs.Prelude.{ℕ, Bool, List, [], ◌∷◌, ◌++◌, Option, Some, None, codes, length, not, ◌==◌, ◌||◌, ◌&&◌, nat_le}
 use Rattle.std.specs.Fmt.{decimal}
+use Rattle.cp_base.specs.declared.limits.TheConstants.{MOST_KEY, MOST_VALUE}
 use Rattle.hex.specs.Hex.{encode_lower}
 use Rattle.cp_grammar.specs.Grammar.{Grammar, always, checked, keyed, case, no_case}
 use Rattle.cp_grammar.specs.Fields.{byte, bytes, optional}
@@ -13,10 +14,10 @@ reference most = optional (bytes most)
 
 -- of 1 to 64 bytes
 unfoldable pub key : Grammar ℕ (List ℕ)
-key = checked (bytes 64) (λ xs. not (length xs == 0))
+key = checked (bytes MOST_KEY) (λ xs. not (length xs == 0))
 
 unfoldable pub value : Grammar ℕ (List ℕ)
-value = bytes 1024
+value = bytes MOST_VALUE
 
 -- `x`, and two digits for each byte
 abbrev pub hex_text : List ℕ → List ℕ

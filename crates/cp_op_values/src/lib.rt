@@ -7,9 +7,8 @@ mod wish;
 
 pub use kind::Kind;
 pub use values::{
-    MOST_COUNT, MOST_MEMBER, MOST_PERMITS, MOST_REFERENCE, OLDER_MOST_REFERENCE, append_hex_text,
-    append_key, append_key_and_value, append_key_and_values, append_members_text, append_numbered,
-    append_reference, append_reference_text, append_size, append_value, take_key, take_reference,
-    take_size, take_tag, take_value,
+    append_hex_text, append_key, append_key_and_value, append_key_and_values, append_members_text,
+    append_numbered, append_reference, append_reference_text, append_size, append_value, take_key,
+    take_reference, take_size, take_tag, take_value,
 };
 pub use wish::{Wish, append_wish};

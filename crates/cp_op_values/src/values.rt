@@ -2,35 +2,18 @@
 ghost use Rattle.std.specs.Prelude.{◌≡◌, ◌++◌, ◌∷◌, OnOk};
 ghost use Rattle.std.specs.Fmt.{decimal};
 ghost use Rattle.cp_base.specs.Text.{Grew};
+ghost use Rattle.cp_base.specs.declared.limits.TheConstants.{MOST_REFERENCE};
 ghost use Rattle.cp_grammar.specs.Fields.{byte, at_least};
 ghost use Rattle.cp_grammar.specs.Readers.{Reads};
 ghost use Rattle.cp_op_values.specs.Numbers.{group_size};
 ghost use Rattle.cp_op_values.specs.Values.{reference, key, value, hex_text, reference_text, members_text};
 
+use cp_base::limits::{MOST_KEY, MOST_MEMBER, MOST_VALUE};
 use cp_base::{Items, NoMemory, write_decimal, write_hex};
 use cp_grammar::{Stop, append_bytes, append_u8, take_bytes, take_u8};
 use std::alloc::Global;
 
-/// The most bytes that a reference has.
-pub const MOST_REFERENCE: u32 = 4000;
-
-/// The most bytes that a reference had in the first version of journals, messages and snapshots.
-pub const OLDER_MOST_REFERENCE: u32 = 1024;
-
-/// The most permits of a semaphore.
-pub const MOST_PERMITS: u32 = (1 << 31) - 1;
-
-/// The most that a latch counts from.
-pub const MOST_COUNT: u32 = 10_000;
-
-/// The highest number of a member.
-pub const MOST_MEMBER: u8 = 9;
-
 const MOST_OP: u8 = 12;
-
-const MOST_KEY: u32 = 64;
-
-const MOST_VALUE: u32 = 1024;
 
 /// The byte of an operation.
 pub fn take_tag(bytes: &[u8]) -> Result<(u8, &[u8]), Stop>
@@ -87,8 +70,8 @@ pub fn take_reference(
 /// Appends a reference.
 #[tactic(auto, unfolding(crate::specs::Values::reference))]
 pub fn append_reference(value: &Option<Items<u8>>, out: &mut Vec<u8>) -> Result<(), NoMemory>
-    requires { (reference 4000).Fits value.now }
-    ensures { OnOk result (out.new.items ≡ out.old.items ++ (reference 4000).spelling value.now) }
+    requires { (reference MOST_REFERENCE).Fits value.now }
+    ensures { OnOk result (out.new.items ≡ out.old.items ++ (reference MOST_REFERENCE).spelling value.now) }
 {
     match value {
         None => append_u8(0, out)?,

@@ -4,6 +4,7 @@ use Rattle.std.specs.Fmt.{decimal}
 use Rattle.cp_base.specs.declared.identifier.MemberNo.{MemberNo}
 use Rattle.cp_base.specs.declared.identifier.GroupId.{GroupId}
 use Rattle.cp_base.specs.declared.identifier.Invocation.{Invocation}
+use Rattle.cp_base.specs.declared.limits.TheConstants.{MOST_REFERENCE}
 use Rattle.cp_grammar.specs.Grammar.{Grammar, always, keyed, variant, case, no_case, ◌then◌}
 use Rattle.cp_grammar.specs.Lists.{listed, each}
 use Rattle.cp_grammar.specs.Fields.{byte}
@@ -74,7 +75,7 @@ entry_within most = keyed entry_tag (byte 8)
 
 -- the newest form
 abbrev pub entry_grammar : Grammar ℕ Entry
-entry_grammar = entry_within 4000
+entry_grammar = entry_within MOST_REFERENCE
 
 abbrev pub entry_text : Entry → List ℕ
 entry_text variants.Empty = codes "empty"

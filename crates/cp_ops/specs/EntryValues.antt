@@ -3,6 +3,7 @@ use Rattle.std.specs.Prelude.{ℕ, List, [], ◌∷◌, ◌++◌, Option, Some, 
 use Rattle.std.specs.Fmt.{decimal}
 use Rattle.std.specs.Int.{w32}
 use Rattle.cp_base.specs.declared.identifier.Invocation.{Invocation}
+use Rattle.cp_base.specs.declared.limits.TheConstants.{MOST_EXPIRED}
 use Rattle.cp_grammar.specs.Grammar.{Grammar}
 use Rattle.cp_grammar.specs.Fields.{number, at_least, optional}
 use Rattle.cp_grammar.specs.Lists.{listed, each}
@@ -10,7 +11,7 @@ use Rattle.cp_grammar.specs.Common.{index_pair, invocation}
 
 -- from 1 to 100 items
 abbrev pub hundred : Grammar ℕ ℕ
-hundred = at_least 1 (number w32 100)
+hundred = at_least 1 (number w32 MOST_EXPIRED)
 
 -- from 1 to 100 sessions with their versions
 unfoldable pub session_list : Grammar ℕ (List (ℕ × ℕ))

@@ -1,10 +1,11 @@
 -- The grammars of operations and entries are lawful.
 use Rattle.std.specs.Prelude.{◌<◌, ◌^◌, ℕ}
 use Rattle.std.proofs.Common.{refl, arith}
+use Rattle.cp_base.specs.declared.limits.TheConstants.{LAST_NUMBER, MOST_REFERENCE}
 use Rattle.cp_codec.specs.Exact.{IsByte}
 use Rattle.cp_grammar.specs.Lawful.{IsLawful}
-use Rattle.cp_grammar.proofs.Laws.{enum_lawful, with_unit, with_variant, no_cases, then_lawful}
-use Rattle.cp_grammar.proofs.FieldLaws.{lawful, byte_lawful, at_least_lawful}
+use Rattle.cp_grammar.specs.Laws.{enum_lawful, with_unit, with_variant, no_cases, then_lawful}
+use Rattle.cp_grammar.specs.FieldLaws.{lawful, byte_lawful, at_least_lawful}
 use Rattle.cp_grammar.specs.Grammar.{◌then◌}
 use Rattle.cp_grammar.specs.Fields.{byte, at_least}
 use Rattle.cp_grammar.specs.Lists.{listed, each}
@@ -60,7 +61,7 @@ op_lawful most below = enum_lawful IsByte (at_least 1 (byte 12)) op_tag _ (at_le
     (with_variant IsByte op_tag 1 (λ p. op_variants.Long p.0 p.1) op_long (name then long_op) _ (search (lawful, name_lawful, long_op_lawful)) (λ _. refl) (λ _. refl)
     (with_variant IsByte op_tag 2 (λ p. op_variants.Ref p.0 p.1) op_ref (name then (ref_op_within most)) _ (then_lawful IsByte name name_lawful (ref_op_within most) (ref_op_lawful most below)) (λ _. refl) (λ _. refl)
     (with_variant IsByte op_tag 3 (λ p. op_variants.Lock p.0 p.1) op_lock (name then lock_op) _ (search (lawful, name_lawful, lock_op_lawful)) (λ _. refl) (λ _. refl)
-    (with_variant IsByte op_tag 4 (λ p. op_variants.Sem p.0 p.1) op_sem (name then (sem_op (2 ^ 62))) _ (then_lawful IsByte name name_lawful (sem_op (2 ^ 62)) (sem_op_lawful (2 ^ 62) refl)) (λ _. refl) (λ _. refl)
+    (with_variant IsByte op_tag 4 (λ p. op_variants.Sem p.0 p.1) op_sem (name then (sem_op LAST_NUMBER)) _ (then_lawful IsByte name name_lawful (sem_op LAST_NUMBER) (sem_op_lawful (2 ^ 62) refl)) (λ _. refl) (λ _. refl)
     (with_variant IsByte op_tag 5 (λ p. op_variants.Jsem p.0 p.1) op_jsem (name then (sem_op 0)) _ (then_lawful IsByte name name_lawful (sem_op 0) (sem_op_lawful 0 refl)) (λ _. refl) (λ _. refl)
     (with_variant IsByte op_tag 6 (λ p. op_variants.Latch p.0 p.1) op_latch (name then latch_op) _ (search (lawful, name_lawful, latch_op_lawful)) (λ _. refl) (λ _. refl)
     (with_variant IsByte op_tag 7 op_variants.Session op_session session_op _ (search (lawful, session_op_lawful)) (λ _. refl) (λ _. refl)
@@ -72,7 +73,7 @@ op_lawful most below = enum_lawful IsByte (at_least 1 (byte 12)) op_tag _ (at_le
     (no_cases IsByte op_tag)))))))))))))
 
 pub op_newest_lawful : IsLawful IsByte op_grammar
-op_newest_lawful = op_lawful 4000 (omega arith)
+op_newest_lawful = op_lawful MOST_REFERENCE (omega arith)
 
 pub entry_lawful : (most : ℕ) → most < 2 ^ 32 → IsLawful IsByte (entry_within most)
 unfolding entry_within
@@ -89,4 +90,4 @@ entry_lawful most below = enum_lawful IsByte (byte 8) entry_tag _ (byte_lawful 8
     (no_cases IsByte entry_tag))))))))))
 
 pub entry_newest_lawful : IsLawful IsByte entry_grammar
-entry_newest_lawful = entry_lawful 4000 (omega arith)
+entry_newest_lawful = entry_lawful MOST_REFERENCE (omega arith)

@@ -1,5 +1,6 @@
 -- An operation, as it stands in an entry or a request.
-use Rattle.std.specs.Prelude.{ℕ, List, Option, Some, None, codes, ◌++◌, ◌∷◌, ◌^◌}
+use Rattle.std.specs.Prelude.{ℕ, List, Option, Some, None, codes, ◌++◌, ◌∷◌}
+use Rattle.cp_base.specs.declared.limits.TheConstants.{LAST_NUMBER, MOST_REFERENCE}
 use Rattle.cp_grammar.specs.Grammar.{Grammar, keyed, variant, case, no_case, ◌then◌}
 use Rattle.cp_grammar.specs.Fields.{byte, at_least}
 use Rattle.cp_grammar.specs.Common.{name}
@@ -95,7 +96,7 @@ op_within most = keyed op_tag (at_least 1 (byte 12))
     (case 1 (variant (λ p. variants.Long p.0 p.1) op_long (name then long_op))
     (case 2 (variant (λ p. variants.Ref p.0 p.1) op_ref (name then (ref_op_within most)))
     (case 3 (variant (λ p. variants.Lock p.0 p.1) op_lock (name then lock_op))
-    (case 4 (variant (λ p. variants.Sem p.0 p.1) op_sem (name then (sem_op (2 ^ 62))))
+    (case 4 (variant (λ p. variants.Sem p.0 p.1) op_sem (name then (sem_op LAST_NUMBER)))
     (case 5 (variant (λ p. variants.Jsem p.0 p.1) op_jsem (name then (sem_op 0)))
     (case 6 (variant (λ p. variants.Latch p.0 p.1) op_latch (name then latch_op))
     (case 7 (variant variants.Session op_session session_op)
@@ -108,7 +109,7 @@ op_within most = keyed op_tag (at_least 1 (byte 12))
 
 -- the newest form
 abbrev pub op_grammar : Grammar ℕ Op
-op_grammar = op_within 4000
+op_grammar = op_within MOST_REFERENCE
 
 abbrev pub op_text : Op → List ℕ
 op_text (variants.Long name op) = codes "long " ++ name ++ 32 ∷ long_op_text op

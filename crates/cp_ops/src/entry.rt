@@ -6,17 +6,17 @@ ghost use Rattle.cp_grammar.specs.Readers.{Reads, Tells};
 ghost use Rattle.std.specs.Prelude.{◌≡◌, ◌++◌, List, ℕ, Ok, OnOk, OnErr, IfOk};
 
 use crate::entry_values::{
-    MOST_EXPIRED, append_for_text, append_invocation_text, append_optional_invocation,
-    append_pairs_text, append_sessions, append_worded_waits, take_optional_invocation,
-    take_sessions,
+    append_for_text, append_invocation_text, append_optional_invocation, append_pairs_text,
+    append_sessions, append_worded_waits, take_optional_invocation, take_sessions,
 };
 use crate::op::Op;
+use cp_base::limits::{MOST_EXPIRED, MOST_REFERENCE};
 use cp_base::{GroupId, Invocation, Items, MemberNo, NoMemory, Text, write_decimal};
 use cp_grammar::{
     ReadError, Spelled, Stop, append_index, append_list, append_members, append_u8, append_u64,
     take_index, take_list, take_members, take_u8, take_u64,
 };
-use cp_op_values::{MOST_REFERENCE, append_members_text, append_numbered};
+use cp_op_values::{append_members_text, append_numbered};
 use std::alloc::Global;
 
 /// An entry of a group's log.

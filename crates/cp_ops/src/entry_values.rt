@@ -4,12 +4,10 @@ ghost use Rattle.cp_base.specs.Text.{Grew};
 ghost use Rattle.cp_grammar.specs.Readers.{Reads};
 ghost use Rattle.cp_ops.specs.EntryValues.{session_list, optional_invocation, invocation_text, for_text, pairs_text, wait_text, waits_text};
 
+use cp_base::limits::MOST_EXPIRED;
 use cp_base::{Invocation, Items, NoMemory, write_decimal};
 use cp_grammar::{Spelled, Stop, append_list, append_u8, take_list, take_u8};
 use std::alloc::Global;
-
-/// The most sessions or waits that one entry ends.
-pub const MOST_EXPIRED: u32 = 100;
 
 /// From 1 to 100 sessions with their versions.
 #[tactic(auto, unfolding(crate::specs::EntryValues::session_list))]

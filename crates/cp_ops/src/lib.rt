@@ -14,6 +14,7 @@ pub use change_op::ChangeOp;
 pub use cp_answers::{
     Answer, Argument, EndedBy, Refusal, no_answer_begins_another, no_refusal_begins_another,
 };
+pub use cp_grammar::ReadError;
 pub use cp_object_ops::{LatchOp, LockOp, LongOp, MapOp, RefOp, SemOp};
 pub use cp_op_values::{Kind, Wish};
 pub use entry::{Entry, no_entry_begins_another};

@@ -9,10 +9,11 @@ use crate::change_op::ChangeOp;
 use crate::group_op::GroupOp;
 use crate::member_op::MemberOp;
 use crate::session_op::SessionOp;
+use cp_base::limits::{LAST_NUMBER, MOST_REFERENCE};
 use cp_base::{Name, NoMemory, Text};
-use cp_grammar::{MOST_INDEX, ReadError, Spelled, Stop, append_u8};
+use cp_grammar::{ReadError, Spelled, Stop, append_u8};
 use cp_object_ops::{LatchOp, LockOp, LongOp, MapOp, RefOp, SemOp};
-use cp_op_values::{Kind, MOST_REFERENCE, take_tag};
+use cp_op_values::{Kind, take_tag};
 use std::alloc::Global;
 
 /// An operation, as it stands in an entry or a request.
@@ -73,7 +74,7 @@ impl Op {
             }
             4 => {
                 let (name, rest) = Name::take(alloc, rest)?;
-                let (op, rest) = SemOp::take_within(alloc, MOST_INDEX, rest)?;
+                let (op, rest) = SemOp::take_within(alloc, LAST_NUMBER, rest)?;
                 Ok((Op::Sem(name, op), rest))
             }
             5 => {

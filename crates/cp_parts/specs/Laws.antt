@@ -2,7 +2,7 @@
 use Rattle.std.specs.Prelude.{ℕ}
 use Rattle.cp_codec.specs.Exact.{IsByte}
 use Rattle.cp_grammar.specs.Lawful.{IsLawful}
-use Rattle.cp_grammar.proofs.FieldLaws.{lawful}
+use Rattle.cp_grammar.specs.FieldLaws.{lawful}
 use Rattle.cp_grammar.specs.CommonLaws.{index_lawful, group_lawful, invocation_lawful, members_lawful}
 use Rattle.cp_parts.specs.Configs.{config_grammar, members_entry}
 use Rattle.cp_parts.specs.LogEntries.{log_entry}

@@ -2,6 +2,7 @@
 use Rattle.std.specs.Prelude.{ℕ, ◌-◌, ◌^◌, List, Option, Some, None}
 use Rattle.std.specs.Int.{w32}
 use Rattle.cp_base.specs.declared.identifier.GroupId.{GroupId}
+use Rattle.cp_base.specs.declared.limits.TheConstants.{MOST_MEMBER}
 use Rattle.cp_grammar.specs.Grammar.{Grammar, always, keyed, variant, case, no_case, ◌then◌}
 use Rattle.cp_grammar.specs.Fields.{byte, marked, number, at_least, bytes}
 use Rattle.cp_grammar.specs.Lists.{listed, each}
@@ -50,7 +51,7 @@ part_start2 _ = None
 
 -- who got the member's vote, 0 for nobody
 abbrev pub vote_number : Grammar ℕ ℕ
-vote_number = byte 9
+vote_number = byte MOST_MEMBER
 
 unfoldable pub entry_list : Grammar ℕ (List LogEntry)
 entry_list = listed (at_least 0 (number w32 (2 ^ 32 - 1))) (each log_entry)

@@ -10,6 +10,6 @@ mod snapshot_head;
 
 pub use config::{Config, config_of_entry};
 pub use down::Down;
-pub use log_entry::{LogEntry, MOST_ENTRY};
+pub use log_entry::LogEntry;
 pub use part::{Part, STATE_BYTES, no_part_begins_another, state_bytes};
 pub use snapshot_head::{SnapshotHead, head_of_snapshot};

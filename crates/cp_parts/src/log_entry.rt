@@ -2,12 +2,10 @@
 ghost use Rattle.cp_grammar.specs.Lists.{each};
 ghost use Rattle.cp_parts.specs.LogEntries.{log_entry};
 
+use cp_base::limits::MOST_ENTRY;
 use cp_base::{Items, NoMemory};
 use cp_grammar::{Item, Stop, append_bytes, append_index, take_bytes, take_index};
 use std::alloc::Global;
-
-/// The most bytes of an entry.
-pub const MOST_ENTRY: u32 = 8192;
 
 /// An entry of a group's log: the term of the leader that made it, and its bytes.
 #[derive(Clone, Debug, PartialEq, Eq, Drop)]

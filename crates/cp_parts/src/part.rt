@@ -7,15 +7,13 @@ ghost use Rattle.cp_parts.specs.Parts.{entry_list, part_grammar};
 ghost use Rattle.cp_parts.specs.Laws.{part_lawful};
 
 use crate::LogEntry;
+use cp_base::limits::MOST_MEMBER;
 use cp_base::{GroupId, Items, NoMemory};
 use cp_grammar::{
     Spelled, Stop, append_bytes, append_index, append_list, append_members, append_u8, take_bytes,
     take_index, take_list, take_mark, take_members, take_u8,
 };
 use std::alloc::Global;
-
-/// The greatest number of a member.
-const MOST_MEMBER: u8 = 9;
 
 /// The greatest byte of a part.
 const MOST_PART: u8 = 7;

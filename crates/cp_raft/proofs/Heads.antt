@@ -5,7 +5,7 @@ use Rattle.std.specs.Int.{Width, w64, byte_len, from_be_bytes}
 use Rattle.std.proofs.lemmas.Option.{same_Some}
 use Rattle.cp_grammar.specs.Grammar.{Read, ◌>>=◌, Grammar, ◌then◌}
 use Rattle.cp_grammar.specs.Fields.{number_reading}
-use Rattle.cp_grammar.proofs.Laws.{bind_ok, ok_is, guard_ok, guard_rest}
+use Rattle.cp_grammar.specs.Laws.{bind_ok, ok_is, guard_ok, guard_rest}
 use Rattle.cp_grammar.specs.Common.{index, members}
 use Rattle.cp_parts.specs.declared.config.Config.{Config}
 use Rattle.cp_parts.specs.declared.snapshot_head.SnapshotHead.{SnapshotHead}

@@ -12,7 +12,7 @@ use Rattle.cp_codec.proofs.Wide.{IsWide, wide32, wide64}
 use Rattle.cp_grammar.specs.Grammar.{Read, ◌>>=◌, Grammar, tokens, checked, ◌then◌, mapped, placed, whole}
 use Rattle.cp_grammar.specs.Fields.{byte, number, number_reading, mark_reading, optional}
 use Rattle.cp_grammar.specs.Lists.{items_reading, items_spelling}
-use Rattle.cp_grammar.proofs.Laws.{bind_ok, ok_is, guard_ok, guard_rest, test_ok}
+use Rattle.cp_grammar.specs.Laws.{bind_ok, ok_is, guard_ok, guard_rest, test_ok}
 use Rattle.cp_grammar.specs.Common.{index, client_id, thread_no, invocation, members, member_after, last_number}
 use Rattle.cp_parts.specs.declared.config.Config.{Config}
 use Rattle.cp_parts.specs.Configs as configs

@@ -10,7 +10,7 @@ use Rattle.std.proofs.lemmas.Option.{same_Some}
 use Rattle.cp_grammar.specs.Grammar.{Read, ◌>>=◌, Grammar, ◌then◌}
 use Rattle.cp_grammar.specs.Fields.{byte, mark_reading, number, number_reading, optional, at_least}
 use Rattle.cp_grammar.specs.Lists.{items_reading, ItemsFit}
-use Rattle.cp_grammar.proofs.Laws.{bind_ok, ok_is, guard_ok, guard_rest, test_ok}
+use Rattle.cp_grammar.specs.Laws.{bind_ok, ok_is, guard_ok, guard_rest, test_ok}
 use Rattle.cp_grammar.specs.Common.{index, invocation, members, member_after, last_number, or_zero}
 use Rattle.cp_parts.specs.declared.config.Config.{Config}
 use Rattle.cp_parts.specs.declared.log_entry.LogEntry.{LogEntry}

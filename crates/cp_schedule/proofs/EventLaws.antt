@@ -11,9 +11,9 @@ use Rattle.cp_grammar.specs.Grammar.{checked, seq}
 use Rattle.cp_grammar.specs.Lists.{until_spelling, UntilFits}
 use Rattle.cp_grammar.specs.Lawful.{IsLawful}
 use Rattle.cp_grammar.specs.Words.{is_end, is_word, token, same_bytes, is_decimal}
-use Rattle.cp_grammar.proofs.Laws.{AreCases, one_field_lawful, mapped_lawful, checked_lawful, seq_lawful, with_unit, with_variant, no_cases}
-use Rattle.cp_grammar.proofs.ListLaws.{until_lawful}
-use Rattle.cp_grammar.proofs.WordLaws.{lawful_text, token_lawful, exact_bytes}
+use Rattle.cp_grammar.specs.Laws.{AreCases, one_field_lawful, mapped_lawful, checked_lawful, seq_lawful, with_unit, with_variant, no_cases}
+use Rattle.cp_grammar.specs.ListLaws.{until_lawful}
+use Rattle.cp_grammar.specs.WordLaws.{lawful_text, token_lawful, exact_bytes}
 use Rattle.cp_events.specs.declared.event.Event.TheVariants as event
 use Rattle.cp_events.specs.declared.schedule.Line.{Line}
 use Rattle.cp_events.specs.declared.schedule.Line.TheVariants as line

@@ -7,7 +7,7 @@ use Rattle.std.proofs.lemmas.Bool.{ltb-true}
 use Rattle.std.proofs.lemmas.List.Sums.{sum_by-append}
 use Rattle.cp_grammar.specs.Grammar.{Grammar, always, one_field, checked, ◌then◌, keyed, mapped, spelled_of, FitsOf, variant, Chosen, no_case}
 use Rattle.cp_grammar.specs.Words.{is_end, is_word, Token, token, word, same_token, keyword, number_word}
-use Rattle.cp_grammar.proofs.WordLaws.{exact_token}
+use Rattle.cp_grammar.specs.WordLaws.{exact_token}
 use Rattle.cp_schedule.specs.Fronts.{after}
 use Rattle.cp_schedule.proofs.EventLaws.{decimal_word}
 

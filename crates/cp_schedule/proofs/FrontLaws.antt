@@ -8,7 +8,7 @@ use Rattle.cp_codec.specs.Exact.{IsByte}
 use Rattle.cp_grammar.specs.Grammar.{Read, ◌>>=◌, Grammar, seq, mapped}
 use Rattle.cp_grammar.specs.Lists.{until_spelling, UntilFits, goes_on, until_reading, until}
 use Rattle.cp_grammar.specs.Lawful.{IsLawful}
-use Rattle.cp_grammar.proofs.Laws.{ok_is, bind_ok, good_after}
+use Rattle.cp_grammar.specs.Laws.{ok_is, bind_ok, good_after}
 use Rattle.cp_schedule.specs.Fronts.{behind, needed, after, spelling_if_there, FitsIfThere, if_there, optional}
 
 -- ---- fronts of texts

@@ -4,11 +4,11 @@ use Rattle.std.specs.Prelude.{codes, Option}
 use Rattle.cp_codec.specs.Exact.{IsByte}
 use Rattle.cp_grammar.specs.Grammar.{Grammar, ◌then◌, seq, checked}
 use Rattle.cp_grammar.specs.Lawful.{IsLawful}
-use Rattle.cp_grammar.proofs.Laws.{one_field_lawful}
-use Rattle.cp_grammar.proofs.WordLaws.{lawful_text}
+use Rattle.cp_grammar.specs.Laws.{one_field_lawful}
+use Rattle.cp_grammar.specs.WordLaws.{lawful_text}
 use Rattle.cp_events.specs.declared.plan.HoldLimit.{HoldLimit}
 use Rattle.cp_events.specs.declared.plan.Groups.{Groups}
-use Rattle.cp_events.specs.declared.plan.Reads.{Reads}
+use Rattle.cp_events.specs.declared.plan.ReadsBy.{ReadsBy}
 use Rattle.cp_call_words.specs.Values.{between_word}
 use Rattle.cp_call_words.specs.ValueLaws.{name_word_lawful}
 use Rattle.cp_schedule.specs.Fronts.{behind}
@@ -85,14 +85,14 @@ reads_no_limit ts = refl
 -- ---- what the last lines spell avoids what their own lines avoid
 
 limits_avoid : (other : List ℕ) → ((ts : List ℕ) → Avoids other (codes "limit " ++ ts)) → ((ts : List ℕ) → Avoids other (codes "reads " ++ ts))
-    → (y : List HoldLimit × Option Reads) (rest : List ℕ) → Avoids other rest → Avoids other ((limit_lines then reads_line).spelling y ++ rest)
+    → (y : List HoldLimit × Option ReadsBy) (rest : List ℕ) → Avoids other rest → Avoids other ((limit_lines then reads_line).spelling y ++ rest)
 unfolding limit_lines limit_line reads_line
 limits_avoid other limit_apart reads_apart y rest may =
     rw (append_assoc (limit_lines.spelling y.0) (reads_line.spelling y.1) rest) (lines_avoid (codes "limit ") (omega arith) (λ b. checked one_limit (may_follow b)) limit_lawful other limit_apart y.0 (reads_line.spelling y.1 ++ rest)
     (optional_avoids (codes "reads ") which_reads other reads_apart y.1 rest may))
 
 groups_avoid : (members : ℕ) (other : List ℕ) → ((ts : List ℕ) → Avoids other (codes "groups " ++ ts)) → ((ts : List ℕ) → Avoids other (codes "limit " ++ ts)) → ((ts : List ℕ) → Avoids other (codes "reads " ++ ts))
-    → (y : Option Groups × (List HoldLimit × Option Reads)) (rest : List ℕ) → Avoids other rest → Avoids other ((groups_line members then limit_lines then reads_line).spelling y ++ rest)
+    → (y : Option Groups × (List HoldLimit × Option ReadsBy)) (rest : List ℕ) → Avoids other rest → Avoids other ((groups_line members then limit_lines then reads_line).spelling y ++ rest)
 unfolding groups_line
 groups_avoid members other groups_apart limit_apart reads_apart y rest may =
     rw (append_assoc ((groups_line members).spelling y.0) ((limit_lines then reads_line).spelling y.1) rest)
@@ -108,7 +108,7 @@ limits_only : IsLawfulBefore (Avoids (codes "limit ")) limit_lines
 unfolding limit_lines limit_line
 limits_only = lines_lawful (codes "limit ") (omega arith) (λ b. checked one_limit (may_follow b)) limit_lawful
 
-reads_follow : (y : Option Reads) (rest : List ℕ) → IsBehindHeader rest → Avoids (codes "limit ") (reads_line.spelling y ++ rest)
+reads_follow : (y : Option ReadsBy) (rest : List ℕ) → IsBehindHeader rest → Avoids (codes "limit ") (reads_line.spelling y ++ rest)
 unfolding reads_line
 reads_follow y rest may = optional_avoids (codes "reads ") which_reads (codes "limit ") reads_no_limit y rest may.no_limit
 

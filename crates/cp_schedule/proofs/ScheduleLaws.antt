@@ -10,7 +10,7 @@ use Rattle.cp_grammar.specs.Grammar.{Grammar, seq, whole}
 use Rattle.cp_grammar.specs.Lawful.{IsLawful}
 use Rattle.cp_grammar.specs.Lists.{UntilFits}
 use Rattle.cp_events.specs.declared.plan.HoldLimit.{HoldLimit}
-use Rattle.cp_grammar.proofs.Laws.{mapped_lawful, whole_again, whole_takes}
+use Rattle.cp_grammar.specs.Laws.{mapped_lawful, whole_again, whole_takes}
 use Rattle.cp_events.specs.declared.schedule.Schedule.{Schedule}
 use Rattle.cp_schedule.specs.Header.{opening, is_limited, limit_line, limit_lines, header_behind, header, lines_of}
 use Rattle.cp_schedule.specs.Events.{event_lines}

@@ -10,8 +10,8 @@ use Rattle.cp_events.specs.declared.plan.Plan.{Plan}
 use Rattle.cp_events.specs.declared.plan.HoldLimit.{HoldLimit}
 use Rattle.cp_events.specs.declared.plan.Groups.{Groups}
 use Rattle.cp_events.specs.declared.plan.Groups.TheVariants as groups
-use Rattle.cp_events.specs.declared.plan.Reads.{Reads}
-use Rattle.cp_events.specs.declared.plan.Reads.TheVariants as reads
+use Rattle.cp_events.specs.declared.plan.ReadsBy.{ReadsBy}
+use Rattle.cp_events.specs.declared.plan.ReadsBy.TheVariants as reads
 use Rattle.cp_schedule.specs.Fronts.{after, optional}
 
 -- `cp 1`, `members N`
@@ -76,25 +76,25 @@ limit_line before = optional (codes "limit ") (checked one_limit (may_follow bef
 unfoldable pub limit_lines : Grammar ℕ (List HoldLimit)
 limit_lines = until limit_line
 
-abbrev pub reads_word : Reads → Token
+abbrev pub reads_word : ReadsBy → Token
 reads_word reads.Entry = (codes "entry", 10)
 reads_word reads.Round = (codes "round", 10)
 
-unfoldable pub reads_words : Grammar ℕ Reads
+unfoldable pub reads_words : Grammar ℕ ReadsBy
 reads_words = keyed reads_word token
     (keyword (codes "entry") 10 (always reads.Entry)
     (keyword (codes "round") 10 (always reads.Round)
     no_case))
 
-unfoldable pub which_reads : Grammar ℕ Reads
+unfoldable pub which_reads : Grammar ℕ ReadsBy
 which_reads = one_field reads_words
 
 -- `reads entry`, `reads round`
-unfoldable pub reads_line : Grammar ℕ (Option Reads)
+unfoldable pub reads_line : Grammar ℕ (Option ReadsBy)
 reads_line = optional (codes "reads ") which_reads
 
 abbrev pub Lines : Type 0
-Lines = ℕ × (ℕ × (ℕ × (Option ℕ × (Option Groups × (List HoldLimit × Option Reads)))))
+Lines = ℕ × (ℕ × (ℕ × (Option ℕ × (Option Groups × (List HoldLimit × Option ReadsBy)))))
 
 abbrev pub plan_of : Lines → Plan
 plan_of p = record { members = p.0; size = p.1.0; clients = p.1.1.0; snapshot = p.1.1.1.0; groups = p.1.1.1.1.0; limits = p.1.1.1.1.1.0; reads = p.1.1.1.1.1.1 }
@@ -103,7 +103,7 @@ abbrev pub lines_of : Plan → Lines
 lines_of h = (h.members, (h.size, (h.clients, (h.snapshot, (h.groups, (h.limits, h.reads))))))
 
 -- the lines behind `members N`
-unfoldable pub header_behind : ℕ → Grammar ℕ (ℕ × (ℕ × (Option ℕ × (Option Groups × (List HoldLimit × Option Reads)))))
+unfoldable pub header_behind : ℕ → Grammar ℕ (ℕ × (ℕ × (Option ℕ × (Option Groups × (List HoldLimit × Option ReadsBy)))))
 header_behind members = size_line members then clients_line then snapshot_line then groups_line members then limit_lines then reads_line
 
 -- The header: each line that may be left out stands at most once, in this order; limits of locks up to 16 times.

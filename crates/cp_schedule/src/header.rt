@@ -184,21 +184,21 @@ fn take_limits(alloc: Global, bytes: &[u8]) -> Result<(Items<HoldLimit>, &[u8]),
 }
 
 #[tactic(auto, unfolding(crate::specs::Header::reads_words))]
-fn take_reads_words(bytes: &[u8]) -> Result<(cp_events::Reads, &[u8]), Stop>
+fn take_reads_words(bytes: &[u8]) -> Result<(cp_events::ReadsBy, &[u8]), Stop>
     ensures { Reads result (reads_words.reading bytes.now) }
 {
     let (word, end, rest) = take_token(bytes)?;
     if is_token(word, end, b"entry", LINE) {
-        return Ok((cp_events::Reads::Entry, rest));
+        return Ok((cp_events::ReadsBy::Entry, rest));
     }
     if is_token(word, end, b"round", LINE) {
-        return Ok((cp_events::Reads::Round, rest));
+        return Ok((cp_events::ReadsBy::Round, rest));
     }
     Err(Stop::Left(rest.len()))
 }
 
 #[tactic(auto, unfolding(crate::specs::Header::which_reads))]
-fn take_which_reads(bytes: &[u8]) -> Result<(cp_events::Reads, &[u8]), Stop>
+fn take_which_reads(bytes: &[u8]) -> Result<(cp_events::ReadsBy, &[u8]), Stop>
     ensures { Reads result (which_reads.reading bytes.now) }
 {
     match take_reads_words(bytes) {
@@ -209,7 +209,7 @@ fn take_which_reads(bytes: &[u8]) -> Result<(cp_events::Reads, &[u8]), Stop>
 }
 
 #[tactic(auto, unfolding(crate::specs::Header::reads_line))]
-fn take_reads(bytes: &[u8]) -> Result<(Option<cp_events::Reads>, &[u8]), Stop>
+fn take_reads(bytes: &[u8]) -> Result<(Option<cp_events::ReadsBy>, &[u8]), Stop>
     ensures { Reads result (reads_line.reading bytes.now) }
 {
     let Some(word) = behind(b"reads ", bytes) else {

@@ -9,6 +9,7 @@ mod laws;
 mod reading;
 mod writing;
 
+pub use cp_events::{Event, Line, Schedule};
 pub use laws::{
     a_schedule_has_no_fault, a_text_spells_one_schedule, lines_are_numbered, members_are_not_built,
 };

@@ -12,6 +12,7 @@ mod open;
 mod restore;
 mod sessions;
 
+pub use cp_group_state::SessionRow;
 pub use error::SessionError;
 pub use sessions::Sessions;
 

@@ -1,8 +1,8 @@
 -- The grammars of lists are lawful.
 use Rattle.cp_codec.specs.Exact.{IsByte}
 use Rattle.cp_grammar.specs.Lawful.{IsLawful}
-use Rattle.cp_grammar.proofs.Laws.{mapped_lawful}
-use Rattle.cp_grammar.proofs.FieldLaws.{lawful}
+use Rattle.cp_grammar.specs.Laws.{mapped_lawful}
+use Rattle.cp_grammar.specs.FieldLaws.{lawful}
 use Rattle.cp_state_bytes.specs.declared.version.Version.{Version}
 use Rattle.cp_state_bytes.specs.declared.version.Version.TheVariants as versions
 use Rattle.cp_state_bytes.specs.RowLaws.{session_row_lawful, lock_row_lawful, semaphore_row_lawful, held_row_lawful, latch_row_lawful, long_row_lawful, ref_row_lawful, gone_row_lawful, waiter_row_lawful, memory_row_lawful, pair_row_lawful}

@@ -3,7 +3,7 @@ use Rattle.std.proofs.Common.{◌≡◌, ℕ, ◌-◌, ◌^◌, ◌≤◌, true,
 use Rattle.std.specs.List.{AllByRecursion}
 use Rattle.cp_codec.specs.Exact.{IsByte}
 use Rattle.cp_grammar.specs.Grammar.{whole}
-use Rattle.cp_grammar.proofs.Laws.{whole_again, whole_takes}
+use Rattle.cp_grammar.specs.Laws.{whole_again, whole_takes}
 use Rattle.cp_group_state.specs.GroupState.{GroupState}
 use Rattle.cp_group_ranges.specs.States.{IsSound}
 use Rattle.cp_group_ranges.proofs.Counts.{holdings-stand}

@@ -3,8 +3,8 @@ use Rattle.std.proofs.Common.{refl}
 use Rattle.cp_codec.specs.Exact.{IsByte}
 use Rattle.cp_grammar.specs.Lawful.{IsLawful}
 use Rattle.cp_grammar.specs.Grammar.{◌then◌}
-use Rattle.cp_grammar.proofs.Laws.{mapped_lawful, settled_lawful, seq_lawful, then_lawful}
-use Rattle.cp_grammar.proofs.FieldLaws.{lawful}
+use Rattle.cp_grammar.specs.Laws.{mapped_lawful, settled_lawful, seq_lawful, then_lawful}
+use Rattle.cp_grammar.specs.FieldLaws.{lawful}
 use Rattle.cp_grammar.specs.CommonLaws.{group_lawful}
 use Rattle.cp_state_bytes.specs.declared.version.Version.{Version}
 use Rattle.cp_state_bytes.specs.Versions.{version_grammar}

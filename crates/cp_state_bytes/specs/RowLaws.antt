@@ -8,12 +8,12 @@ use Rattle.cp_grammar.specs.Fields.{optional}
 use Rattle.cp_grammar.specs.Fields.{number}
 use Rattle.std.specs.Int.{w32}
 use Rattle.cp_grammar.specs.Lists.{each}
-use Rattle.cp_grammar.proofs.ListLaws.{listed_lawful, each_lawful}
+use Rattle.cp_grammar.specs.ListLaws.{listed_lawful, each_lawful}
 use Rattle.cp_grammar.specs.Common.{index, invocation}
 use Rattle.cp_op_values.specs.Values.{reference}
 use Rattle.cp_answers.specs.Answers.{answer_within}
-use Rattle.cp_grammar.proofs.Laws.{mapped_lawful, then_lawful}
-use Rattle.cp_grammar.proofs.FieldLaws.{lawful, u32_lawful, optional_lawful}
+use Rattle.cp_grammar.specs.Laws.{mapped_lawful, then_lawful}
+use Rattle.cp_grammar.specs.FieldLaws.{lawful, u32_lawful, optional_lawful}
 use Rattle.cp_grammar.specs.CommonLaws.{index_lawful, name_lawful, thread_lawful, client_lawful, invocation_lawful}
 use Rattle.cp_op_values.specs.declared.kind.Kind.{Kind}
 use Rattle.cp_op_values.specs.Laws.{reference_lawful, key_lawful, value_lawful, kind_lawful, wish_lawful}

@@ -8,10 +8,10 @@ ghost use Rattle.cp_state_bytes.specs.Lists.{latch_list};
 
 use crate::lists::MOST_ROWS;
 use crate::rows::take_name_behind;
+use cp_base::limits::MOST_COUNT;
 use cp_base::{Invocation, Items, Name};
 use cp_grammar::{Stop, take_index, take_items, take_u32};
 use cp_group_state::LatchRow;
-use cp_op_values::MOST_COUNT;
 use std::alloc::Global;
 
 /// The most counted calls of all latches together.

@@ -12,11 +12,12 @@ use crate::keys::{is_behind, may_follow_name, may_follow_session};
 use crate::row::Row;
 use crate::version::Version;
 use cp_answers::Answer;
+use cp_base::limits::MOST_PERMITS;
 use cp_base::{ClientId, Invocation, Items, Name, ThreadNo};
 use cp_grammar::{Spelled, Stop, take_i64, take_index, take_u8, take_u32, take_u32_between};
 use cp_group_state::{Holder, LockRow, MemoryRow, SemaphoreRow, SessionRow, Waiter};
 use cp_map::Key;
-use cp_op_values::{Kind, MOST_PERMITS, Wish, take_key, take_reference, take_value};
+use cp_op_values::{Kind, Wish, take_key, take_reference, take_value};
 use std::alloc::Global;
 
 /// The least number of permits that may stand available.

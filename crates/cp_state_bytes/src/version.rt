@@ -4,8 +4,9 @@ ghost use Rattle.cp_state_bytes.specs.RowLaws.{version_lawful};
 ghost use Rattle.cp_state_bytes.specs.Versions.{has_kind, is_no_map, most_reference, version_grammar};
 
 use cp_base::NoMemory;
+use cp_base::limits::{MOST_REFERENCE, OLDER_MOST_REFERENCE};
 use cp_grammar::{Spelled, Stop, append_u8, take_u8};
-use cp_op_values::{Kind, MOST_REFERENCE, OLDER_MOST_REFERENCE};
+use cp_op_values::Kind;
 use std::alloc::Global;
 
 /// A version of the bytes of a group's state. The newest is written, and all of them are read.

@@ -6,14 +6,14 @@ ghost use Rattle.cp_rules_ranges.specs.Ranges.{AreInRange, AppendIsInRange, Chun
 ghost use Rattle.cp_raft_state.specs.Said.{body_in, end_in, entry_in};
 ghost use Rattle.cp_three_members.specs.Coming.{IsSaid};
 
-use cp_grammar::MOST_INDEX;
+use cp_base::limits::LAST_NUMBER;
 use cp_message::{Append, Body, Chunk, LogEntry, Message, VoteRequest};
 
 /// Whether a number may be a term, an index or a round.
 fn is_index(number: u64) -> bool
     ensures { result ≡ true → number ≤ most_index }
 {
-    number <= MOST_INDEX
+    number <= LAST_NUMBER
 }
 
 /// Each number of 32 bits may be a place in a snapshot.
@@ -29,7 +29,7 @@ fn are_entries(entries: &[LogEntry]) -> bool
 {
     let mut rest = entries;
     while let [entry, after @ ..] = rest {
-        if entry.term > MOST_INDEX || entry.bytes.len() > 8192 {
+        if entry.term > LAST_NUMBER || entry.bytes.len() > 8192 {
             return false;
         }
         rest = after;

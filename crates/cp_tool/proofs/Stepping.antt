@@ -12,7 +12,7 @@ use Rattle.cp_world_rules.specs.Rows.{Committed}
 use Rattle.cp_world_rules.specs.World as rules
 use Rattle.cp_world_rules.proofs.Settled.{settled}
 use Rattle.cp_transcript.specs.Telling.{Tells}
-use Rattle.cp_transcript.specs.declared.transcript.Transcript.{Transcript}
+use Rattle.cp_transcript.specs.declared.transcript.TranscriptWriter.{TranscriptWriter}
 use Rattle.cp_world.specs.Following as world
 use Rattle.cp_world.specs.declared.turn.Turn.{Turn}
 use Rattle.cp_world.specs.declared.world.World.{World}
@@ -61,7 +61,7 @@ shown_follows plan events e old new turn follows step tells count = record {
 }
 
 -- An event is printed, and then the entries that it committed.
-pub printed : (e : Event) (turn : Turn) (opened : List (ClientNo × Opened)) (returns : List (ClientNo × Return)) (entries : List Entry) (old one two : Transcript)
+pub printed : (e : Event) (turn : Turn) (opened : List (ClientNo × Opened)) (returns : List (ClientNo × Return)) (entries : List Entry) (old one two : TranscriptWriter)
     → opened ≡ turn.opened → returns ≡ turn.returns → entries ≡ turn.entries
     → ((shown : List Effects) (history : List Committed) → Tells shown history old → Tells (shown ++ record { number = turn.number; event = e; ignored = turn.ignored; opened = opened; returns = returns } ∷ []) history one)
     → ((shown : List Effects) (history : List Committed) → Tells shown history one → Tells shown (history ++ world.committed_at turn.number entries) two)

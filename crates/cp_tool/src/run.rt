@@ -8,6 +8,7 @@ ghost use Rattle.cp_tool.specs.Runs.{IsAfterReading, IsBeforeWrites, IsReplay, L
 
 use crate::running::{Stop, transcript};
 use crate::status::Status;
+use cp_disk::CrashDisk;
 use cp_io::{Fault, ReadEnd, Sink, Source, read_all, write_all};
 use cp_schedule::ScheduleError;
 use std::alloc::Global;
@@ -28,12 +29,14 @@ fn is_replay(words: &[String]) -> bool
 }
 
 /// Does what the words say: `replay` reads a schedule from the source, runs it, and writes its transcript to the sink.
-/// The text is made whole before the first write.
-pub fn run<S: Source, K: Sink>(
+/// The text is made whole before the first write. The disks are those of the members: a schedule without members leaves
+/// them as they are.
+pub fn run<S: Source, K: Sink, D: CrashDisk>(
     alloc: Global,
     words: &[String],
     source: &mut S,
     sink: &mut K,
+    disks: &mut Vec<D>,
 ) -> Status
     // The source was read to its end and spells a schedule, whose transcript was written and keeps the promises.
     ensures done { result ≡ Status.Done → IsReplay (map string_bytes words.now) → IfSome (S.left source.old) (λ bytes.
@@ -53,6 +56,7 @@ pub fn run<S: Source, K: Sink>(
     ensures read_to_end { IsAfterReading result → IsAtEnd (S.left source.new) × IfSome (S.left source.old) (λ bytes. length bytes ≤ 16777216) }
     ensures unwritten { IsBeforeWrites result → sink.new ≡ sink.old }
     ensures front { result ≡ Status.WriteFault → IfSome (S.left source.old) (λ bytes. ReplaysFront bytes (K.written sink.old) (K.written sink.new)) }
+    ensures disks { disks.new ≡ disks.old }
     ensures no_memory { result ≡ Status.NoMemory → (sink.new ≡ sink.old)
         ⊎ IfSome (S.left source.old) (λ bytes. ReplaysFront bytes (K.written sink.old) (K.written sink.new)) }
 {

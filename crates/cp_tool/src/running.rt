@@ -14,7 +14,7 @@ use crate::status::LimitName;
 use cp_base::NoMemory;
 use cp_events::{Event, Line, Plan, Schedule};
 use cp_schedule::line_of_event;
-use cp_transcript::Transcript;
+use cp_transcript::TranscriptWriter;
 use cp_world::{Turn, World};
 use std::alloc::Global;
 
@@ -30,7 +30,7 @@ pub struct Running {
     pub world: World,
     /// What the last event did.
     pub turn: Turn,
-    pub transcript: Transcript,
+    pub transcript: TranscriptWriter,
     /// How many events there were.
     pub events: u64,
 }
@@ -58,13 +58,13 @@ fn open(alloc: Global) -> Result<Running, NoMemory>
     Ok(Running {
         world: World::new(alloc)?,
         turn: Turn::new(alloc),
-        transcript: Transcript::new(alloc)?,
+        transcript: TranscriptWriter::new(alloc)?,
         events: 0,
     })
 }
 
 /// What an event shows, and the entries that it committed.
-fn print(transcript: &mut Transcript, event: &Event, turn: &Turn) -> Result<(), NoMemory>
+fn print(transcript: &mut TranscriptWriter, event: &Event, turn: &Turn) -> Result<(), NoMemory>
     requires { transcript.old.rows + length turn.now.entries < 2 ^ 62 }
     ensures { OnOk result ((shown : List Effects) (history : List Committed) → Tells shown history transcript.old
         → Tells (shown ++ effects_of event.now turn.now ∷ []) (history ++ committed_at turn.now.number turn.now.entries) transcript.new) }

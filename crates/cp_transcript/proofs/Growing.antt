@@ -9,7 +9,7 @@ use Rattle.cp_transcript.specs.Effects.{effects_lines}
 use Rattle.cp_transcript.specs.Histories.{committed_line, committed_lines}
 use Rattle.cp_transcript.specs.Transcripts.{opening}
 use Rattle.cp_transcript.specs.Telling.{Tells, committed_at}
-use Rattle.cp_transcript.specs.declared.transcript.Transcript.{Transcript}
+use Rattle.cp_transcript.specs.declared.transcript.TranscriptWriter.{TranscriptWriter}
 
 pub nothing_behind : {X : Type 0} (xs : List X) → xs ++ [] ≡ xs
 nothing_behind [] = refl
@@ -26,7 +26,7 @@ committed_more i j (x ∷ history) c at =
     ap (λ t. committed_line i x ++ t) (committed_more (i + 1) j history c (omega (arith, at)))
     ∙ sym (append_assoc (committed_line i x) (committed_lines (i + 1) history) (committed_line j c))
 
-pub one_event_more : (shown : List Effects) (history : List Committed) (e : Effects) (old new : Transcript)
+pub one_event_more : (shown : List Effects) (history : List Committed) (e : Effects) (old new : TranscriptWriter)
     → Tells shown history old → new.text.items ≡ old.text.items ++ effects_lines e → new.rows ≡ old.rows → new.history.items ≡ old.history.items
     → Tells (shown ++ e ∷ []) history new
 one_event_more shown history e old new tells text rows lines = record {
@@ -35,7 +35,7 @@ one_event_more shown history e old new tells text rows lines = record {
   history = lines ∙ tells.history;
 }
 
-pub one_entry_more : (shown : List Effects) (history : List Committed) (c : Committed) (old new : Transcript)
+pub one_entry_more : (shown : List Effects) (history : List Committed) (c : Committed) (old new : TranscriptWriter)
     → Tells shown history old → new.text.items ≡ old.text.items → new.rows ≡ old.rows + 1 → new.history.items ≡ old.history.items ++ committed_line (old.rows + 1) c
     → Tells shown (history ++ c ∷ []) new
 one_entry_more shown history c old new tells text rows lines = record {

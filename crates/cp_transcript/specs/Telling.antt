@@ -7,14 +7,14 @@ use Rattle.cp_world_rules.specs.Rows.{Committed}
 use Rattle.cp_transcript.specs.Effects.{effects_lines}
 use Rattle.cp_transcript.specs.Histories.{committed_lines}
 use Rattle.cp_transcript.specs.Transcripts.{opening}
-use Rattle.cp_transcript.specs.declared.transcript.Transcript.{Transcript}
+use Rattle.cp_transcript.specs.declared.transcript.TranscriptWriter.{TranscriptWriter}
 
 -- entries that one event committed
 abbrev pub committed_at : ℕ → List Entry → List Committed
 committed_at event entries = map (λ e. record { event = event; entry = e }) entries
 
 -- The lines so far are those of these effects and of this history.
-pub record Tells (shown : List Effects) (committed : List Committed) (t : Transcript) : Type 0 where
+pub record Tells (shown : List Effects) (committed : List Committed) (t : TranscriptWriter) : Type 0 where
   pub text : t.text.items ≡ opening ++ flat_map effects_lines shown
   pub rows : t.rows ≡ length committed
   pub history : t.history.items ≡ committed_lines 1 committed
@@ -24,5 +24,5 @@ abbrev pub history_text : ℕ → List ℕ → List ℕ
 history_text rows lines = if rows == 0 then [] else codes "history 1\n" ++ lines
 
 -- what the lines so far come to
-abbrev pub whole_text : Transcript → List ℕ
+abbrev pub whole_text : TranscriptWriter → List ℕ
 whole_text t = t.text.items ++ history_text t.rows t.history.items ++ codes "end\n"

@@ -5,6 +5,7 @@ mod effects;
 mod history;
 mod transcript;
 
+pub use cp_events::Effects;
 pub use effects::write_effects;
 pub use history::write_committed;
-pub use transcript::Transcript;
+pub use transcript::TranscriptWriter;

@@ -19,7 +19,7 @@ const END: &[u8] = b"end\n";
 /// The lines so far: those of the events, and those of the history of the group `default`, which come behind them at the
 /// end.
 #[derive(Debug, Drop)]
-pub struct Transcript {
+pub struct TranscriptWriter {
     pub text: Vec<u8>,
     /// How many lines the history has.
     pub rows: u64,
@@ -28,12 +28,12 @@ pub struct Transcript {
     pub scratch: Vec<u8>,
 }
 
-impl Transcript {
+impl TranscriptWriter {
     /// The lines before the first event.
-    pub fn new(alloc: Global) -> Result<Transcript, NoMemory>
+    pub fn new(alloc: Global) -> Result<TranscriptWriter, NoMemory>
         ensures { IfOk result (λ transcript. Tells [] [] transcript) }
     {
-        Ok(Transcript {
+        Ok(TranscriptWriter {
             text: Vec::from_slice(alloc, b"cp 1 transcript\n0 open\n")?,
             rows: 0,
             history: Vec::new(alloc),
@@ -100,7 +100,7 @@ impl Transcript {
     pub fn into_text(self) -> Result<Vec<u8>, NoMemory>
         ensures { IfOk result (λ text. (shown : List Effects) (history : List Committed) → Tells shown history self → text.items ≡ lines_of shown history) }
     {
-        let Transcript {
+        let TranscriptWriter {
             mut text,
             rows,
             history,

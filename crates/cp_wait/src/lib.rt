@@ -8,4 +8,5 @@ mod rows;
 mod shelf;
 mod waits;
 
+pub use cp_group_state::Waiter;
 pub use waits::{RowsError, WaitError, Waits};

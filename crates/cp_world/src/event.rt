@@ -16,7 +16,6 @@ use crate::world::World;
 use cp_base::{ClientNo, NoMemory, ThreadNo};
 use cp_client::ClientOut;
 use cp_events::{Event, Ignored, Plan, UserOp};
-use std::mem;
 
 /// The clocks of clients end here.
 const CLOCK_END: u64 = 1 << 62;
@@ -40,7 +39,7 @@ fn calls_now(
     requires { HasRoomFor (calls_now plan.now me thread op.now) world.old turn.old }
     ensures { OnOk result (Leads (calls_now plan.now me thread op.now) world.old turn.old world.new turn.new) }
 {
-    given.clear(world.alloc);
+    given.clear();
     call_at(world.alloc, &mut world.clients, plan, me, thread, op, given)?;
     does(world, me, given, turn)
 }
@@ -79,7 +78,7 @@ fn moves_now(
     requires clock { (or_new (find nat_cmp world.old.clients.entries me.0)).clock + ms ≤ 2 ^ 62 }
     ensures { OnOk result (Leads (moves_if_room me ms) world.old turn.old world.new turn.new) }
 {
-    given.clear(world.alloc);
+    given.clear();
     tick_at(world.alloc, &mut world.clients, me, ms, given)?;
     does(world, me, given, turn)
 }
@@ -168,7 +167,7 @@ fn begin(
 
 /// The next event, of which the steps of clients are given in this list. An answer makes its client ask at most once
 /// more, so the queue is empty when it was handed on twice.
-fn step_in(
+pub fn step(
     world: &mut World,
     plan: &Plan,
     event: &Event,
@@ -178,21 +177,10 @@ fn step_in(
     requires { IsReached plan.now world.old }
     ensures { OnOk result ((w : Rules) → Follows w world.old → IsStep plan.now event.now w world.new turn.new) }
 {
-    turn.start(world.alloc, world.events + 1);
+    turn.start(world.events + 1);
     begin(world, plan, event, given, turn)?;
     handed(world, plan, given, turn)?;
     handed(world, plan, given, turn)?;
     world.events += 1;
-    Ok(())
-}
-
-/// The next event: what it shows, and the entries that it committed.
-pub fn step(world: &mut World, plan: &Plan, event: &Event, turn: &mut Turn) -> Result<(), NoMemory>
-    requires { IsReached plan.now world.old }
-    ensures { OnOk result ((w : Rules) → Follows w world.old → IsStep plan.now event.now w world.new turn.new) }
-{
-    let mut given = mem::replace(&mut world.given, ClientOut::new(world.alloc));
-    step_in(world, plan, event, &mut given, turn)?;
-    world.given = given;
     Ok(())
 }

@@ -7,7 +7,7 @@ ghost use Rattle.cp_world.specs.Steps.{hand_to};
 
 use crate::clients::{answer_at, client_of};
 use crate::committing::does;
-use crate::reusing::{empty, take_backwards};
+use crate::reusing::take_backwards;
 use crate::turn::Turn;
 use crate::world::World;
 use cp_answers::Answer;
@@ -30,7 +30,7 @@ fn hand_to(
     requires { HasRoomFor (hand_to plan.now me request.now answer) world.old turn.old }
     ensures { OnOk result (Leads (hand_to plan.now me request.now answer) world.old turn.old world.new turn.new) }
 {
-    given.clear(world.alloc);
+    given.clear();
     answer_at(
         world.alloc,
         &mut world.clients,
@@ -86,7 +86,7 @@ fn take_queue(
     ensures taken { result ≡ queue.old }
     ensures left { queue.new ≡ [] }
 {
-    empty(alloc, spare);
+    spare.clear();
     let next = mem::replace(spare, Items::new(alloc));
     mem::replace(queue, next)
 }

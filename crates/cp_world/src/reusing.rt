@@ -15,12 +15,3 @@ pub fn take_backwards<T>(alloc: Global, items: &mut Items<T>) -> Vec<T>
     taken.reverse();
     taken
 }
-
-/// Empties a list, which keeps its memory.
-pub fn empty<T: Drop>(alloc: Global, items: &mut Items<T>)
-    ensures { items.new ≡ [] }
-{
-    let mut taken = mem::replace(items, Items::new(alloc)).into_vec();
-    taken.clear();
-    *items = Items::from_vec(taken);
-}

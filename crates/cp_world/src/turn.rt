@@ -1,7 +1,6 @@
 //! What an event shows and commits.
 ghost use Rattle.std.specs.Prelude.{◌≡◌, [], None};
 
-use crate::reusing::empty;
 use cp_base::{ClientNo, Items};
 use cp_events::{Ignored, Opened, Return};
 use cp_ops::Entry;
@@ -33,13 +32,13 @@ impl Turn {
     }
 
     /// The event of this number begins.
-    pub(crate) fn start(&mut self, alloc: Global, number: u64)
+    pub(crate) fn start(&mut self, number: u64)
         ensures { self.new ≡ record { number = number; ignored = None; opened = []; returns = []; entries = [] } }
     {
         self.number = number;
         self.ignored = None;
-        empty(alloc, &mut self.opened);
-        empty(alloc, &mut self.returns);
-        empty(alloc, &mut self.entries);
+        self.opened.clear();
+        self.returns.clear();
+        self.entries.clear();
     }
 }

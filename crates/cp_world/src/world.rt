@@ -13,6 +13,7 @@ use cp_events::{Event, Plan};
 use cp_group_tables::GroupTables;
 use std::alloc::Global;
 use std::collections::BTreeMap;
+use std::mem;
 
 /// Clients, and the one group, whose history each request enters at once. After want of memory in a step, it is only
 /// dropped.
@@ -56,6 +57,9 @@ impl World {
         requires { IsReached plan.now self.old }
         ensures { OnOk result ((w : Rules) → Follows w self.old → IsStep plan.now event.now w self.new turn.new) }
     {
-        event::step(self, plan, event, turn)
+        let mut given = mem::replace(&mut self.given, ClientOut::new(self.alloc));
+        event::step(self, plan, event, &mut given, turn)?;
+        self.given = given;
+        Ok(())
     }
 }

@@ -1,7 +1,7 @@
 use Rattle.std.proofs.Common.{ap, subst, ◌∙◌, arith}
 use Rattle.cp_grammar.specs.Grammar.{whole}
 use Rattle.cp_grammar.specs.Readers.{Tells}
-use Rattle.cp_grammar.proofs.Laws.{whole_again}
+use Rattle.cp_grammar.specs.Laws.{whole_again}
 use Rattle.cp_grammar.proofs.Found.{is_found}
 use Rattle.cp_codec.specs.Exact.{IsByte}
 use Rattle.cp_codec.proofs.Wide.{bytes_from}

@@ -1,5 +1,5 @@
 use Rattle.std.proofs.Common.{◌<◌, ◌^◌, arith, sym, ◌∙◌}
-use Rattle.cp_grammar.proofs.WordLaws.{no_text, no_number, written, other}
+use Rattle.cp_grammar.specs.WordLaws.{no_text, no_number, written, other}
 use Rattle.cp_grammar.proofs.words.read_own_decimal.Goals as goal
 
 pub returns-in_default-from_utf8 : goal.returns-in_default-from_utf8

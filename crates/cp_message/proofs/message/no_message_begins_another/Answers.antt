@@ -1,5 +1,5 @@
 use Rattle.cp_codec.specs.Exact.{IsByte}
-use Rattle.cp_grammar.proofs.Laws.{prefix_free}
+use Rattle.cp_grammar.specs.Laws.{prefix_free}
 use Rattle.cp_message.specs.Messages.{any_version}
 use Rattle.cp_message.specs.Laws.{any_version_lawful}
 use Rattle.cp_message.proofs.message.no_message_begins_another.Goals as goal

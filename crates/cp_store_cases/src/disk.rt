@@ -1,0 +1,157 @@
+//! Steps with a disk.
+ghost use Rattle.std.specs.Prelude.{◌≡◌, ◌≤◌, ◌<◌, ◌^◌};
+ghost use Rattle.cp_store_cases.specs.Orders.{orders_of};
+
+use crate::end::CaseEnd;
+use crate::step::DiskStep;
+use crate::words::{tell, tell_bytes, tell_number, tell_whether};
+use cp_base::NoMemory;
+use cp_disk::{CrashDisk, Disk, Failed, Fault, MemoryDisk};
+use std::alloc::Global;
+
+/// The most orders that a case gives to its disk.
+pub(crate) const MOST_ORDERS: u64 = 1 << 32;
+
+/// A disk in memory, and how many orders it was given at most.
+#[derive(Drop)]
+pub struct CaseDisk {
+    pub(crate) disk: MemoryDisk,
+    pub(crate) orders: u64,
+    ghost counted: { orders_of disk ≤ orders },
+}
+
+/// What a step with a disk found.
+#[derive(Debug, Drop)]
+enum Found {
+    Done,
+    Number(u64),
+    Bytes(Vec<u8>),
+    PastTheEnd,
+}
+
+fn tell_found(found: Result<Found, Fault>, out: &mut Vec<u8>) -> Result<(), NoMemory> {
+    match found {
+        Ok(Found::Done) => tell(b"ok", out),
+        Ok(Found::Number(number)) => tell_number(number, out),
+        Ok(Found::Bytes(bytes)) => tell_bytes(&bytes, out),
+        Ok(Found::PastTheEnd) => tell(b"past the end", out),
+        Err(Fault::Failed) => tell(b"disk fault", out),
+        Err(Fault::NoMemory) => tell(b"no memory", out),
+    }
+}
+
+fn len_of(disk: &mut MemoryDisk) -> Result<Found, Fault>
+    ensures { orders_of disk.new ≡ orders_of disk.old }
+{
+    match disk.len() {
+        Ok(len) => Ok(Found::Number(len)),
+        Err(Failed) => Err(Fault::Failed),
+    }
+}
+
+fn all_of(alloc: Global, disk: &mut MemoryDisk) -> Result<Found, Fault>
+    ensures { orders_of disk.new ≡ orders_of disk.old }
+{
+    let Ok(len) = disk.len() else {
+        return Err(Fault::Failed);
+    };
+    let Ok(mut bytes) = vec![in alloc; 0u8; len as usize] else {
+        return Err(Fault::NoMemory);
+    };
+    match disk.read(0, &mut bytes) {
+        Ok(()) => Ok(Found::Bytes(bytes)),
+        Err(fault) => Err(fault),
+    }
+}
+
+fn write(disk: &mut MemoryDisk, at: u64, bytes: &[u8]) -> Result<Found, Fault>
+    ensures { orders_of disk.new ≡ orders_of disk.old }
+{
+    let Ok(len) = disk.len() else {
+        return Err(Fault::Failed);
+    };
+    if len < at {
+        return Ok(Found::PastTheEnd);
+    }
+    match disk.write_at(at, bytes) {
+        Ok(()) => Ok(Found::Done),
+        Err(fault) => Err(fault),
+    }
+}
+
+fn cut(disk: &mut MemoryDisk, length: u64) -> Result<Found, Fault>
+    ensures { orders_of disk.new ≡ orders_of disk.old }
+{
+    let Ok(len) = disk.len() else {
+        return Err(Fault::Failed);
+    };
+    if len < length {
+        return Ok(Found::PastTheEnd);
+    }
+    match disk.cut(length) {
+        Ok(()) => Ok(Found::Done),
+        Err(fault) => Err(fault),
+    }
+}
+
+fn sync(disk: &mut MemoryDisk) -> Result<Found, Fault>
+    ensures { orders_of disk.new ≡ orders_of disk.old }
+{
+    match disk.sync() {
+        Ok(()) => Ok(Found::Done),
+        Err(Failed) => Err(Fault::Failed),
+    }
+}
+
+/// A new disk.
+pub fn new_disk(alloc: Global, bytes: &[u8], fails: &[u64]) -> Result<CaseDisk, CaseEnd> {
+    match MemoryDisk::new(alloc, bytes, fails) {
+        Ok(disk) => Ok(CaseDisk { disk, orders: 0 }),
+        Err(_) => Err(CaseEnd::NoMemory),
+    }
+}
+
+impl CaseDisk {
+    fn crash(&mut self, choice: u64) {
+        if self.orders < MOST_ORDERS {
+            self.disk.crash(choice);
+            self.orders += 1;
+        }
+    }
+
+    fn stop_after(&mut self, calls: u64) {
+        if self.orders < MOST_ORDERS {
+            self.disk.stop_after(calls);
+            self.orders += 1;
+        }
+    }
+
+    fn found(&mut self, alloc: Global, step: DiskStep) -> Result<Found, Fault> {
+        match step {
+            DiskStep::Len => len_of(&mut self.disk),
+            DiskStep::Bytes => all_of(alloc, &mut self.disk),
+            DiskStep::Write(at, bytes) => write(&mut self.disk, at, &bytes),
+            DiskStep::Cut(length) => cut(&mut self.disk, length),
+            DiskStep::Sync => sync(&mut self.disk),
+            _ => Ok(Found::Done),
+        }
+    }
+
+    /// Does a step, and tells what came out.
+    pub fn go(&mut self, alloc: Global, step: DiskStep, out: &mut Vec<u8>) -> Result<(), CaseEnd> {
+        match step {
+            DiskStep::New(_, _) => return Err(CaseEnd::BadInput),
+            DiskStep::Crash(choice) => {
+                self.crash(choice);
+                tell(b"ok", out)?;
+            }
+            DiskStep::Stop(calls) => {
+                self.stop_after(calls);
+                tell(b"ok", out)?;
+            }
+            DiskStep::Struck => tell_whether(self.disk.struck(), out)?,
+            other => tell_found(self.found(alloc, other), out)?,
+        }
+        Ok(())
+    }
+}
