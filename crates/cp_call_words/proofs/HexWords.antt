@@ -1,5 +1,6 @@
 -- Which words are the text of bytes.
-use Rattle.std.proofs.Common.{◌≡◌, ◌<◌, arith, ℕ, Bool, true, false, ◌&&◌, eqb, List, [], ◌∷◌, Ok, Err, Result, refl, sym, ap, ◌∙◌}
+use Rattle.std.proofs.Common.{◌≡◌, arith, ℕ, true, false, eqb, List, [], ◌∷◌, Ok, Err, Result, refl, sym, ap, ◌∙◌}
+use Rattle.std.proofs.lemmas.Bool.{false_from_ne_true}
 use Rattle.hex.specs.Hex.{IsBytes, decode_of, encode_lower, encode_with}
 use Rattle.hex.specs.declared.error.FromHexError.{FromHexError}
 use Rattle.hex.proofs.HexLemmas.{decode_of-encode_lower, decode_of-ok}
@@ -8,10 +9,6 @@ use Rattle.cp_grammar.specs.WordLaws.{exact_bytes}
 use Rattle.cp_op_values.specs.Values.{hex_text}
 use Rattle.cp_call_words.specs.Values.{decoded, hex_bytes}
 use Rattle.cp_call_words.proofs.SignedWords.{same_self}
-
-not_true : (a : Bool) → (a ≡ true → ⊥) → a ≡ false
-not_true true h = absurd (h refl)
-not_true false h = refl
 
 -- the digits of bytes are read as these bytes
 pub is_text : (digits bytes : List ℕ) → IsBytes bytes → digits ≡ encode_lower bytes
@@ -32,7 +29,7 @@ other_text digits (Err error) was never e = never [] (λ i. omega arith) e
 pub no_text : (digits : List ℕ) → ((bytes : List ℕ) → IsBytes bytes → digits ≡ encode_lower bytes → ⊥)
     → same_bytes (120 ∷ digits) (hex_text (hex_bytes (120 ∷ digits))) ≡ false
 no_text digits never =
-    not_true _ (λ same.
+    false_from_ne_true _ (λ same.
     let e : digits ≡ encode_lower (hex_bytes (120 ∷ digits)) = exact_bytes digits (encode_lower (hex_bytes (120 ∷ digits))) same in
     other_text digits (decode_of digits) refl never e)
 

@@ -1,8 +1,8 @@
 -- The object of a word that is taken apart at its first @.
-use Rattle.std.proofs.Common.{◌≡◌, ℕ, Bool, true, false, ◌&&◌, not, ◌==◌, List, [], ◌∷◌, ◌++◌, refl, ap, sym, subst, ◌∙◌}
+use Rattle.std.proofs.Common.{◌≡◌, ℕ, Bool, true, false, not, ◌==◌, List, [], ◌∷◌, ◌++◌, refl, ap, sym, subst, ◌∙◌}
 use Rattle.std.specs.Prelude.{Option, Some, None}
 use Rattle.std.specs.List.{list_all}
-use Rattle.std.proofs.lemmas.Bool.{eqb-true}
+use Rattle.std.proofs.lemmas.Bool.{eqb-true, and_parts, not-true}
 use Rattle.cp_base.specs.Names.{is_name_byte, name_fault}
 use Rattle.cp_base.proofs.NameLemmas as names
 use Rattle.cp_grammar.specs.Common.{is_none}
@@ -10,21 +10,13 @@ use Rattle.cp_call_words.specs.Values.{is_name}
 use Rattle.cp_base.specs.Text.{Lacks}
 use Rattle.cp_call_words.specs.Objects.{before_at, from_at, object_with, object_of, is_object}
 
-and_true : (a b : Bool) → (a && b) ≡ true → (a ≡ true) × (b ≡ true)
-and_true true b e = (refl, e)
-and_true false b e = absurd cc
-
-not_true : (a : Bool) → not a ≡ true → a ≡ false
-not_true true e = absurd cc
-not_true false e = refl
-
 -- nothing of a text without an @ stands from an @ on
 all_before : (text : List ℕ) → Lacks 64 text → (before_at text ≡ text) × (from_at text ≡ [])
 unfolding before_at from_at
 all_before [] lacks = (refl, refl)
 all_before (b ∷ text) lacks =
-    let parts = and_true (not (b == 64)) _ lacks in
-    let other = not_true (b == 64) parts.0 in
+    let parts = and_parts (not (b == 64)) _ lacks in
+    let other = not-true (b == 64) parts.0 in
     let rest = all_before text parts.1 in
     rw (other, rest.0, rest.1) (refl, refl)
 
@@ -32,8 +24,8 @@ front_before : (name group : List ℕ) → Lacks 64 name → (before_at (name ++
 unfolding before_at from_at
 front_before [] group lacks = (refl, refl)
 front_before (b ∷ name) group lacks =
-    let parts = and_true (not (b == 64)) _ lacks in
-    let other = not_true (b == 64) parts.0 in
+    let parts = and_parts (not (b == 64)) _ lacks in
+    let other = not-true (b == 64) parts.0 in
     let rest = front_before name group parts.1 in
     rw (other, rest.0, rest.1) (refl, refl)
 
@@ -51,7 +43,7 @@ other_byte true b is stands = absurd (at_is_none (subst (λ (x : ℕ). is_name_b
 lacks_at : (text : List ℕ) → list_all is_name_byte text ≡ true → Lacks 64 text
 lacks_at [] all = refl
 lacks_at (b ∷ text) all =
-    let parts = and_true (is_name_byte b) (list_all is_name_byte text) all in
+    let parts = and_parts (is_name_byte b) (list_all is_name_byte text) all in
     rw (other_byte (b == 64) b refl parts.0, lacks_at text parts.1) refl
 
 nothing_in : (place : Option ℕ) → is_none place ≡ true → place ≡ None

@@ -1,11 +1,11 @@
 -- Which words are the text of a number with a sign.
-use Rattle.std.proofs.Common.{◌≡◌, ◌<◌, ◌^◌, ℕ, zero, suc, Bool, true, false, ◌&&◌, cond, eqb, nat_lt, List, [], ◌∷◌, get_or, refl, sym, ap, subst, ◌∙◌, arith}
+use Rattle.std.proofs.Common.{◌≡◌, ◌<◌, ◌^◌, ℕ, zero, suc, true, false, eqb, List, [], ◌∷◌, get_or, refl, sym, ap, ◌∙◌, arith}
 use Rattle.std.specs.Prelude.{ℤ, pos, negsuc, FitsSigned, Option, Some, None, MatchOption}
 use Rattle.std.specs.Int.{w64}
 use Rattle.std.specs.Fmt.{decimal, signed_decimal}
 use Rattle.std.specs.Str.Parse.{digits_value, signed_digits_value}
 use Rattle.std.proofs.lemmas.Fmt.{decimal_is_IsNumeral, decimal_digit, first_decimal}
-use Rattle.std.proofs.lemmas.Bool.{eq-eqb, le-ltb, lt-ltb, ltb-true}
+use Rattle.std.proofs.lemmas.Bool.{eq-eqb, and_parts, false_from_ne_true}
 use Rattle.std.proofs.lemmas.Bool.Decides.{nat_tests}
 use Rattle.cp_base.specs.Decimals.{ReadsSigned}
 use Rattle.cp_grammar.specs.Words.{same_bytes}
@@ -15,14 +15,6 @@ use Rattle.cp_call_words.specs.Values.{is_own_text, is_long}
 pub same_self : (xs : List ℕ) → same_bytes xs xs ≡ true
 same_self [] = refl
 same_self (x ∷ xs) = rw (eq-eqb x x refl, same_self xs) refl
-
-and_true : (a b : Bool) → (a && b) ≡ true → (a ≡ true) × (b ≡ true)
-and_true true b e = (refl, e)
-and_true false b e = absurd cc
-
-not_true : (a : Bool) → (a ≡ true → ⊥) → a ≡ false
-not_true true h = absurd (h refl)
-not_true false h = refl
 
 long_fits : (z : ℤ) → is_long z ≡ true → FitsSigned w64 z
 long_fits (pos n) e = grind (arith, nat_tests)
@@ -58,8 +50,8 @@ is_text word number fits e =
 
 pub no_text : (word : List ℕ) → ((number : ℤ) → FitsSigned w64 number → word ≡ signed_decimal number → ⊥) → is_own_text signed_decimal (signed_digits_value 10) is_long word ≡ false
 no_text word never =
-    not_true _ (λ own.
-    let parts = and_true (same_bytes word (signed_decimal (signed_digits_value 10 word))) (is_long (signed_digits_value 10 word)) own in
+    false_from_ne_true _ (λ own.
+    let parts = and_parts (same_bytes word (signed_decimal (signed_digits_value 10 word))) (is_long (signed_digits_value 10 word)) own in
     never (signed_digits_value 10 word) (long_fits (signed_digits_value 10 word) parts.1) (exact_bytes word (signed_decimal (signed_digits_value 10 word)) parts.0))
 
 -- what a reader of numbers with a sign tells

@@ -1,6 +1,6 @@
 -- A change leaves members by rising number, one at least.
-use Rattle.std.proofs.Common.{◌≡◌, ◌≢◌, ◌==◌, ◌<◌, ◌≤◌, ◌&&◌, ◌||◌, not, ℕ, ⊎_elim, Bool, true, false, List, [], ◌∷◌, length, refl, sym, Option, Some, None, true≢false, nat_lt, if◌then◌else◌, arith}
-use Rattle.std.proofs.lemmas.Bool.{cases_Bool, lt-ltb, ltb-true, ltb-false, eqb-false}
+use Rattle.std.proofs.Common.{◌≡◌, ◌≢◌, ◌==◌, ◌<◌, ◌≤◌, ◌&&◌, ◌||◌, not, ℕ, ⊎_elim, Bool, true, false, List, [], ◌∷◌, length, refl, Option, Some, None, true≢false, nat_lt, if◌then◌else◌, arith}
+use Rattle.std.proofs.lemmas.Bool.{cases_Bool, lt-ltb, ltb-true, ltb-false, eqb-false, and_parts}
 use Rattle.cp_rules.specs.declared.change.Change.{Change}
 use Rattle.cp_rules.specs.Persistent.{is_member}
 use Rattle.cp_rules.specs.Changes.{may_change, with_member, without_member}
@@ -14,15 +14,10 @@ record Rises (lowest m : ℕ) (ms : List ℕ) : Type 0 where
   below : m < 10
   rest : is_rising m ms ≡ true
 
-both_true : (a b : Bool) → (a && b) ≡ true → (a ≡ true) × (b ≡ true)
-both_true true true h = (refl, refl)
-both_true true false h = absurd (true≢false (sym h))
-both_true false b h = absurd (true≢false (sym h))
-
 rises : (lowest m : ℕ) (ms : List ℕ) → is_rising lowest (m ∷ ms) ≡ true → Rises lowest m ms
 rises lowest m ms h =
-    let a = both_true (nat_lt lowest m) (nat_lt m 10 && is_rising m ms) h in
-    let b = both_true (nat_lt m 10) (is_rising m ms) a.1 in
+    let a = and_parts (nat_lt lowest m) (nat_lt m 10 && is_rising m ms) h in
+    let b = and_parts (nat_lt m 10) (is_rising m ms) a.1 in
     record { above = ltb-true lowest m a.0; below = ltb-true m 10 b.0; rest = b.1 }
 
 risen : (lowest m : ℕ) (ms : List ℕ) → lowest < m → m < 10 → is_rising m ms ≡ true → is_rising lowest (m ∷ ms) ≡ true
@@ -84,10 +79,6 @@ without_some x (m ∷ ms) h = ⊎_elim
 unrefused : {A : Type 0} (c : Bool) (x : A) (next : Option A) → (if c then Some x else next) ≡ None → (c ≡ false) × (next ≡ None)
 unrefused true x next h = absurd (cc)
 unrefused false x next h = (refl, h)
-
-from_not : (b : Bool) → not b ≡ false → b ≡ true
-from_not true h = refl
-from_not false h = absurd (true≢false h)
 
 fit : (index : ℕ) (members : List ℕ) (change : Change) (commit committed_term term : ℕ) → may_change index members change commit committed_term term ≡ None → unfit change members ≡ None
 fit index members change commit committed_term term h =

@@ -5,6 +5,7 @@ use Rattle.std.specs.declared.cmp.Ordering.{Ordering}
 use Rattle.std.specs.declared.cmp.Ordering.TheVariants.{Less, Equal, Greater}
 use Rattle.std.specs.Ordering.{match_ordering, nat_cmp}
 use Rattle.std.proofs.lemmas.List.{append-nil}
+use Rattle.std.proofs.lemmas.Bool.{and_parts}
 use Rattle.cp_base.specs.declared.identifier.ClientId.{ClientId}
 use Rattle.cp_base.specs.declared.identifier.GroupId.{GroupId}
 use Rattle.cp_base.specs.declared.identifier.Invocation.{Invocation}
@@ -162,16 +163,12 @@ tasked_idle : (plan : Plan) (me : ClientId) (request : Invocation) (x : Task) (n
 tasked_idle plan me request (task.Calls o) now a c = prepared_idle plan me request.number (call_in request now o) c now.purpose a
 tasked_idle plan me request (task.Beats s) now a c = refl
 
-both : (a b : Bool) → (a && b) ≡ true → (a ≡ true) × (b ≡ true)
-both true b h = (refl, h)
-both false b h = cc
-
 -- an answer to an open request
 pub open_gives : (plan : Plan) (me : ClientId) (request : Invocation) (a : Answer) (now : Pending) (c after : Client) (x y : ClientOut)
     → is_open request (thread_at c request.thread) ≡ true → (thread_at c request.thread).pending ≡ Some now
     → Gives (tasked plan me request now.task now a (idle request.thread c)) after x y → Gives (answer_client plan me request a c) after x y
 open_gives plan me request a now c after x y h pending g =
-    let number = (both ((thread_at c request.thread).number == request.number) (is_some (thread_at c request.thread).pending) h).0 in
+    let number = (and_parts ((thread_at c request.thread).number == request.number) (is_some (thread_at c request.thread).pending) h).0 in
     rw (number, pending) (gives_but_ended (on_task plan me request now.task now a c) (record (on_task plan me request now.task now a c) { ended = (request, a) ∷ [] }) after x y refl refl refl refl
     (subst (λ d. Gives d after x y) (tasked_idle plan me request now.task now a c) g))
 
@@ -184,4 +181,4 @@ dropped_gives plan me request a c x = by ((thread_at c request.thread).number ==
   by true (Some now) h = cc
 
 pub open_none : (request : Invocation) (row : Thread) → is_open request row ≡ true → row.pending ≡ None → ⊥
-open_none request row h e = let some = (both (row.number == request.number) (is_some row.pending) h).1 in let none : is_some row.pending ≡ false = ap is_some e in cc
+open_none request row h e = let some = (and_parts (row.number == request.number) (is_some row.pending) h).1 in let none : is_some row.pending ≡ false = ap is_some e in cc

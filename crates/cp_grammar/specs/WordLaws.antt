@@ -3,7 +3,7 @@ use Rattle.std.proofs.Common.{◌≡◌, ℕ, ◌+◌, ◌^◌, ◌<◌, ◌≤�
 use Rattle.std.specs.Prelude.{Option, Some}
 use Rattle.std.specs.Fmt.{decimal}
 use Rattle.std.specs.Str.Parse.{digits_value}
-use Rattle.std.proofs.lemmas.Bool.{eqb-true, eq-eqb, le-leb, leb-true, ltb-true, cases_lt}
+use Rattle.std.proofs.lemmas.Bool.{eqb-true, eq-eqb, le-leb, leb-true, ltb-true, cases_lt, and_parts, not-true}
 use Rattle.std.proofs.lemmas.Fmt.{decimal_is_IsNumeral, decimal_by_steps, parse-decimal, IsAscii-decimal}
 use Rattle.std.proofs.lemmas.Str.{IsUtf8-from_ascii}
 use Rattle.std.specs.Str.{IsUtf8}
@@ -16,22 +16,14 @@ use Rattle.cp_grammar.specs.Lawful.{IsLawful}
 use Rattle.cp_grammar.specs.ListLaws.{until_lawful}
 use Rattle.cp_grammar.specs.Laws.{AreCases, ok_is, checked_lawful, mapped_lawful, with_variant_by, with_unit_by, enum_lawful, no_cases, then_lawful, seq_lawful}
 
-and_true : (a b : Bool) → (a && b) ≡ true → (a ≡ true) × (b ≡ true)
-and_true true b e = (refl, e)
-and_true false b e = absurd cc
-
-not_true : (a : Bool) → not a ≡ true → a ≡ false
-not_true true e = absurd cc
-not_true false e = refl
-
 -- a word and its end are cut where they were put together
 before_word : (w : List ℕ) (e : ℕ) (rest : List ℕ) → is_word w ≡ true → is_end e ≡ true → (before_end (w ++ e ∷ rest) ≡ w) × (from_end (w ++ e ∷ rest) ≡ e ∷ rest)
 unfolding before_end from_end is_word
 before_word [] e rest p q = absurd cc
-before_word (b ∷ []) e rest p q = let n = not_true (is_end b) p in rw (n, q) (refl, refl)
+before_word (b ∷ []) e rest p q = let n = not-true (is_end b) p in rw (n, q) (refl, refl)
 before_word (b ∷ c ∷ bs) e rest p q =
-    let n = and_true (not (is_end b)) (is_word (c ∷ bs)) p in
-    let m = not_true (is_end b) n.0 in
+    let n = and_parts (not (is_end b)) (is_word (c ∷ bs)) p in
+    let m = not-true (is_end b) n.0 in
     let ih = before_word (c ∷ bs) e rest n.1 q in
     rw m (ap (λ (x : List ℕ). b ∷ x) ih.0, ih.1)
 
@@ -103,10 +95,10 @@ pub exact_bytes : (xs ys : List ℕ) → same_bytes xs ys ≡ true → xs ≡ ys
 exact_bytes [] [] e = refl
 exact_bytes [] (y ∷ ys) e = absurd cc
 exact_bytes (x ∷ xs) [] e = absurd cc
-exact_bytes (x ∷ xs) (y ∷ ys) e = let h = and_true (eqb x y) (same_bytes xs ys) e in rw (eqb-true x y h.0, exact_bytes xs ys h.1) refl
+exact_bytes (x ∷ xs) (y ∷ ys) e = let h = and_parts (eqb x y) (same_bytes xs ys) e in rw (eqb-true x y h.0, exact_bytes xs ys h.1) refl
 
 pub exact_token : (s t : Token) → same_token s t ≡ true → s ≡ t
-exact_token s t e = let h = and_true (same_bytes s.0 t.0) (eqb s.1 t.1) e in let p = exact_bytes s.0 t.0 h.0 in let q = eqb-true s.1 t.1 h.1 in λ i. (p i, q i)
+exact_token s t e = let h = and_parts (same_bytes s.0 t.0) (eqb s.1 t.1) e in let p = exact_bytes s.0 t.0 h.0 in let q = eqb-true s.1 t.1 h.1 in λ i. (p i, q i)
 
 same_self : (xs : List ℕ) → same_bytes xs xs ≡ true
 same_self [] = refl
@@ -119,7 +111,7 @@ word_push : (w : List ℕ) (b : ℕ) → is_word w ≡ true → is_end b ≡ fal
 unfolding is_word
 word_push [] b p q = absurd cc
 word_push (x ∷ []) b p q = rw (p, q) refl
-word_push (x ∷ y ∷ xs) b p q = let h = and_true (not (is_end x)) (is_word (y ∷ xs)) p in rw (h.0, word_push (y ∷ xs) b h.1 q) refl
+word_push (x ∷ y ∷ xs) b p q = let h = and_parts (not (is_end x)) (is_word (y ∷ xs)) p in rw (h.0, word_push (y ∷ xs) b h.1 q) refl
 
 one_digit : (d : ℕ) → d < 10 → is_word ((48 + d) ∷ []) ≡ true
 unfolding is_word
@@ -132,7 +124,7 @@ pub number_word_lawful : (end most : ℕ) → is_end end ≡ true → most < 2 ^
 unfolding number_word_reading is_decimal
 number_word_lawful end most q lt =
     let law = mapped_lawful IsByte (checked (word end) (λ w. is_decimal w && leb (digits_value 10 w) most)) (checked_lawful IsByte (word end) (word_lawful end) _) (digits_value 10) decimal
-    (λ w fits. let h = and_true (same_bytes w (decimal (digits_value 10 w))) (leb (digits_value 10 w) most) fits.1 in sym (exact_bytes _ _ h.0)) in
+    (λ w fits. let h = and_parts (same_bytes w (decimal (digits_value 10 w))) (leb (digits_value 10 w) most) fits.1 in sym (exact_bytes _ _ h.0)) in
     record {
       again = λ n rest le.
           let back : digits_value 10 (decimal n) ≡ n = (decimal_is_IsNumeral n (omega arith)).1 in
@@ -141,7 +133,7 @@ number_word_lawful end most q lt =
           law.again n rest (((((decimal_word n (omega arith), q), eq-eqb end end refl), refl), rw (canonical, small) refl), back);
       takes = λ bs n rest good e.
           let h = law.takes bs n rest good e in
-          let g = and_true (same_bytes (decimal n) (decimal (digits_value 10 (decimal n)))) (leb (digits_value 10 (decimal n)) most) h.1.0.1 in
+          let g = and_parts (same_bytes (decimal n) (decimal (digits_value 10 (decimal n)))) (leb (digits_value 10 (decimal n)) most) h.1.0.1 in
           let small : digits_value 10 (decimal n) ≤ most = leb-true _ _ g.1 in
           (h.0, subst (λ (k : ℕ). k ≤ most) h.1.1 small);
     }
@@ -205,4 +197,4 @@ pub texted_lawful : {A : Type 0} (end : ℕ) (text : A → List ℕ) (parse : Li
 texted_lawful end text parse rule =
     mapped_lawful IsByte (checked (word end) (λ w. same_bytes w (text (parse w)) && rule (parse w)))
     (checked_lawful IsByte (word end) (word_lawful end) (λ w. same_bytes w (text (parse w)) && rule (parse w))) parse text
-    (λ w fits. let h = and_true (same_bytes w (text (parse w))) (rule (parse w)) fits.1 in sym (exact_bytes w (text (parse w)) h.0))
+    (λ w fits. let h = and_parts (same_bytes w (text (parse w))) (rule (parse w)) fits.1 in sym (exact_bytes w (text (parse w)) h.0))

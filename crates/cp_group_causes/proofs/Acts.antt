@@ -9,6 +9,7 @@ use Rattle.std.proofs.lemmas.Slice.Eq.{bytes_eq-Decides}
 use Rattle.std.proofs.lemmas.List.Elements.{All-nil, All-cons, All-append, All-map, All-weaker, All-contains_itself, All-filter, All-head}
 use Rattle.cp_base.specs.declared.identifier.ClientId.{ClientId}
 use Rattle.cp_base.specs.declared.identifier.Invocation.{Invocation}
+use Rattle.cp_base.proofs.Tests.{same_some}
 use Rattle.cp_answers.specs.declared.answer.Answer.{Answer}
 use Rattle.cp_answers.specs.declared.answer.Answer.TheVariants as answer
 use Rattle.cp_ops.specs.declared.entry.Entry.{Entry}
@@ -55,7 +56,7 @@ use Rattle.cp_group_state.specs.SessionRules.{session_rule, opened, beat}
 use Rattle.cp_group_state.specs.LatchRules.{latch_rule, on_latch, latch_wait}
 use Rattle.cp_group_state.proofs.Keyed.{equal_is, find-put_same, find-put_other, find-filter_kept, find-filter_gone, is_at_apart, holder_key, number_key, object_key, same_kind, same-client, same-thread}
 use Rattle.cp_group_state.proofs.Walk.{cases, either, All-served}
-use Rattle.cp_group_state.proofs.Grows.{same_some, is_of-same}
+use Rattle.cp_group_state.proofs.Grows.{is_of-same}
 use Rattle.cp_group_state.proofs.Once.{same-call}
 use Rattle.cp_group_state.proofs.Established.{fewer_closed}
 use Rattle.cp_group_causes.proofs.Lists.{at-head, at-tail}

@@ -5,6 +5,7 @@ use Rattle.std.specs.BTreeMap.{is_at}
 use Rattle.cp_base.specs.declared.identifier.ClientId.{ClientId}
 use Rattle.cp_base.specs.declared.identifier.GroupId.{GroupId}
 use Rattle.cp_base.specs.declared.identifier.Invocation.{Invocation}
+use Rattle.cp_base.proofs.Tests.{same_some}
 use Rattle.cp_answers.specs.declared.answer.Answer.{Answer}
 use Rattle.cp_answers.specs.declared.answer.Answer.TheVariants as answer
 use Rattle.cp_ops.specs.declared.entry.Entry.{Entry}
@@ -24,7 +25,6 @@ use Rattle.cp_group_state.specs.Protected.{session_in}
 use Rattle.cp_group_state.specs.Apply.{Applied, apply, apply_call, by_memory, by_session, is_elsewhere, join, outcome, perform, remembered, settle, supersede}
 use Rattle.cp_group_state.proofs.Keyed.{equal_is, find-put_same, find-put_other, holder_key}
 use Rattle.cp_group_state.proofs.Walk.{cases, either}
-use Rattle.cp_group_state.proofs.Grows.{same_some}
 use Rattle.cp_group_causes.proofs.Acts.{Acts, Closes, Destroys, SessionsUpTo, acts-end_all, acts-expire, acts-outcome, acts-supersede, acts-time_out}
 
 -- the row that the entry's own call has in the memory

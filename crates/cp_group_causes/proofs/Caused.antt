@@ -7,6 +7,7 @@ use Rattle.std.proofs.lemmas.List.Elements.{All-contains, All-nil, Contains-appe
 use Rattle.cp_base.specs.declared.identifier.ClientId.{ClientId}
 use Rattle.cp_base.specs.declared.identifier.GroupId.{GroupId}
 use Rattle.cp_base.specs.declared.identifier.Invocation.{Invocation}
+use Rattle.cp_base.proofs.Tests.{same_number, less, no_true, same_some}
 use Rattle.cp_answers.specs.declared.answer.Answer.{Answer}
 use Rattle.cp_answers.specs.declared.answer.Answer.TheVariants as answer
 use Rattle.cp_ops.specs.declared.entry.Entry.{Entry}
@@ -31,7 +32,7 @@ use Rattle.cp_group_state.specs.Protected.{session_in}
 use Rattle.cp_group_state.specs.Apply.{Applied, apply, apply_call, by_memory, by_session, give_again, is_elsewhere, members_answer, outcome, perform, rule, run, settle, settle_wait, supersede, time_out, told}
 use Rattle.cp_group_state.specs.History.{History, IsBelow, IsOrderly, IsOrderlyAt, IsOrderlyFrom}
 use Rattle.cp_group_state.proofs.Walk.{cases, either}
-use Rattle.cp_group_state.proofs.Grows.{Grows, is_of-same, same_some}
+use Rattle.cp_group_state.proofs.Grows.{Grows, is_of-same}
 use Rattle.cp_group_state.proofs.Steps.{RoundsWithin, grows-apply, grows-supersede, within-apply}
 use Rattle.cp_group_state.proofs.Told.{Told, tells_closed, told-apply}
 use Rattle.cp_group_state.proofs.Walk.{walk_supersede}
@@ -93,15 +94,6 @@ names-used (op.Destroy which name) s h = h
 names-used (op.Group l) s h = h
 names-used (op.Member l) s h = h
 names-used (op.Change l) s h = h
-
-test_same : (a b : ℕ) → (a == b) ≡ true → a ≡ b
-test_same a b h = grind (arith, nat_tests)
-
-test_less : (a b : ℕ) → nat_lt a b ≡ true → a < b
-test_less a b h = grind (arith, nat_tests)
-
-true_false : true ≡ false → ⊥
-true_false e = cc
 
 module _ (history : History) where
   stands-later : (n m : ℕ) (e : Entry) → n ≤ m → StandsBy history n e → StandsBy history m e
@@ -326,15 +318,15 @@ module _ (history : History) where
     memory-cause : (x : ℕ) (r : Option MemoryRow) → session_in o ≡ Some x → find holder_cmp t.memory (x, call.thread.0) ≡ r → is_open_for t.sessions x call.client ≡ true → (c : Invocation) (a : Answer) → Contains (by_memory i call o r t).answers (c, a) → HasCause history i c a
     memory-cause x None names there opened c a = perform-cause c a
     memory-cause x (Some row) names there opened c a = cases (λ (r : Applied). Contains r.answers (c, a) → HasCause history i c a) (row.number == call.number) _ _
-        (λ same h. again-cause x row there opened (test_same row.number call.number same) c a h)
+        (λ same h. again-cause x row there opened (same_number row.number call.number same) c a h)
         (λ apart. cases (λ (r : Applied). Contains r.answers (c, a) → HasCause history i c a) (nat_lt call.number row.number) _ _
-        (λ less h. subst (λ (y : Invocation × Answer). HasCause history i y.0 y.1) (sym (one-is (call, answer.Stale row.number) (c, a) h)) (stale-cause x row names there opened (test_less call.number row.number less)))
+        (λ less h. subst (λ (y : Invocation × Answer). HasCause history i y.0 y.1) (sym (one-is (call, answer.Stale row.number) (c, a) h)) (stale-cause x row names there opened (less call.number row.number less)))
         (λ less h. perform-cause c a h))
 
     expired-cause : (x : ℕ) → session_in o ≡ Some x → is_open_for t.sessions x call.client ≡ false → HasCause history i call (answer.SessionExpired x)
     expired-cause x names closed = at (used-open x (names-used o x names)) where
       at : (is_open_for t.sessions x call.client ≡ true) ⊎ IsOver i x → IsOver i x
-      at (inl h) = absurd (true_false (sym h ∙ closed))
+      at (inl h) = absurd (no_true (sym h ∙ closed))
       at (inr h) = h
 
     session-cause : (so : Option ℕ) → session_in o ≡ so → (c : Invocation) (a : Answer) → Contains (by_session i call o so t).answers (c, a) → HasCause history i c a
@@ -481,7 +473,7 @@ module _ (history : History) where
     caused = λ call a h. absurd (no-element (call, a) h);
     asked = λ w h. absurd (no-element w h);
     gone = λ key h. absurd (false_true h);
-    destroyed = λ h. absurd (true_false h);
+    destroyed = λ h. absurd (no_true h);
     sessions = λ x client h. absurd (no_open x client h);
     upto = λ x client h. absurd (false_true h);
     memory = λ x thread row h. absurd (no_row row h);

@@ -9,6 +9,7 @@ use Rattle.std.proofs.lemmas.Cmp.{nat_cmp_total, then_total, on_total}
 use Rattle.cp_base.specs.declared.identifier.ClientId.{ClientId}
 use Rattle.cp_base.specs.declared.identifier.ThreadNo.{ThreadNo}
 use Rattle.cp_base.specs.declared.identifier.Invocation.{Invocation}
+use Rattle.cp_base.proofs.Tests.{no_true}
 use Rattle.cp_grammar.specs.Common.{index, client_id, thread_no}
 use Rattle.cp_grammar.specs.Fields.{optional}
 use Rattle.cp_answers.specs.declared.answer.Answer.{Answer}
@@ -22,7 +23,7 @@ use Rattle.cp_group_state.specs.Waiters.{Ended, same_client, same_call, first, s
 use Rattle.cp_group_state.specs.Memory.{has_memory, remember, note_at, note, note_all}
 use Rattle.cp_group_state.specs.Sessions.{is_of, is_open_for, session_of, is_among, beaten}
 use Rattle.cp_group_state.specs.Invariants.{OneSession, CallsDiffer}
-use Rattle.cp_group_state.proofs.Keyed.{no_true, equal_is, find-put_same, find-put_other, number_key, holder_key, same-client}
+use Rattle.cp_group_state.proofs.Keyed.{equal_is, find-put_same, find-put_other, number_key, holder_key, same-client}
 use Rattle.cp_group_state.proofs.Walk.{either}
 use Rattle.cp_group_state.proofs.Grows.{is_of-same, beats-opened, forget-opened}
 use Rattle.cp_group_state.proofs.Latches.{same_call_itself}

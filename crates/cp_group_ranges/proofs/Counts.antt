@@ -10,6 +10,7 @@ use Rattle.std.specs.BTreeMap.{is_at}
 use Rattle.std.proofs.lemmas.Bool.Decides.{nat_tests}
 use Rattle.std.proofs.lemmas.Slice.Eq.{bytes_eq-Decides}
 use Rattle.std.proofs.lemmas.List.Filters.{length-filter_both}
+use Rattle.cp_base.proofs.Tests.{same_number, no_true}
 use Rattle.cp_ops.specs.declared.entry.Entry.{Entry}
 use Rattle.cp_ops.specs.Entries.{entry_grammar}
 use Rattle.cp_op_values.specs.declared.kind.Kind.TheVariants as kind
@@ -21,14 +22,14 @@ use Rattle.cp_group_state.specs.GroupState.{GroupState, empty}
 use Rattle.cp_group_state.specs.Apply.{Applied, apply, run}
 use Rattle.cp_group_state.specs.History.{History}
 use Rattle.cp_group_state.specs.Invariants.{IsRising, IsBalancedAt, HoldingsStand, held_by_all}
-use Rattle.cp_group_state.proofs.Keyed.{no_true, equal_is, pair_same, number_key, holder_key, object_key}
+use Rattle.cp_group_state.proofs.Keyed.{equal_is, pair_same, number_key, holder_key, object_key}
 use Rattle.cp_group_state.proofs.Walk.{cases}
 use Rattle.cp_group_state.proofs.Rising.{rising-filter}
 use Rattle.cp_group_state.proofs.Ordered.{holding_key, holding_total}
 use Rattle.cp_group_ranges.specs.Rows.{HoldingFits, MemoryFits}
 use Rattle.cp_group_ranges.specs.States.{IsSound}
 use Rattle.cp_group_ranges.specs.Owners.{IsOpen, IsOwned, IsCounted}
-use Rattle.cp_group_ranges.proofs.Listed.{each-filter, each-weaker, each-both, each-find, each-own, keys-each, test_same, or-right}
+use Rattle.cp_group_ranges.proofs.Listed.{each-filter, each-weaker, each-both, each-find, each-own, keys-each, or-right}
 use Rattle.cp_group_ranges.proofs.Permits.{held-part}
 use Rattle.cp_group_ranges.proofs.Calls.{holder_total}
 use Rattle.cp_group_ranges.proofs.Sound.{sound-apply, sound-empty}
@@ -121,7 +122,7 @@ abbrev MemoryOk : List ((ℕ × ℕ) × MemoryRow) → Type 0
 MemoryOk m = IsRising holder_cmp m × AllByRecursion (λ (e : (ℕ × ℕ) × MemoryRow). e.0.1 ≤ 8) m
 
 memory-few : (k : ℕ × SessionRow) (m : List ((ℕ × ℕ) × MemoryRow)) → MemoryOk m → AllByRecursion (λ (e : (ℕ × ℕ) × MemoryRow). of_memory k e ≡ true) m → length m ≤ 9
-memory-few k m ok h = let all = threads k.0 0 m (omega arith) ok.0 (each-weaker (λ (e : (ℕ × ℕ) × MemoryRow). of_memory k e ≡ true) (λ (e : (ℕ × ℕ) × MemoryRow). k.0 ≡ e.0.0) (λ e x. test_same k.0 e.0.0 x) m h) ok.1
+memory-few k m ok h = let all = threads k.0 0 m (omega arith) ok.0 (each-weaker (λ (e : (ℕ × ℕ) × MemoryRow). of_memory k e ≡ true) (λ (e : (ℕ × ℕ) × MemoryRow). k.0 ≡ e.0.0) (λ e x. same_number k.0 e.0.0 x) m h) ok.1
     (each-weaker (λ (e : (ℕ × ℕ) × MemoryRow). e.0.1 ≤ 8) (λ (e : (ℕ × ℕ) × MemoryRow). 0 ≤ e.0.1) (λ e x. omega arith) m ok.1) in omega (arith, all)
 
 memory-counted : (s : GroupState) → IsSound s → IsOwned s → length s.memory ≤ 90000
@@ -173,7 +174,7 @@ module _ (rows : List (Object × SemaphoreRow)) where
 
   session-few : (k : ℕ × SessionRow) (h : List ((ℕ × List ℕ) × ℕ)) → length rows ≤ most → HoldingsOk h → AllByRecursion (λ (e : (ℕ × List ℕ) × ℕ). of_session k e ≡ true) h → length h ≤ most
   session-few k h few ok all = let mine = all-few of_semaphore (SessionOk k.0) (λ test xs p. (rising-filter holding_cmp holding_key holding_total test xs p.0, each-filter (λ (e : (ℕ × List ℕ) × ℕ). k.0 ≡ e.0.0) test xs p.1)) 1 (one-holding k.0) rows h
-      (ok.0, each-weaker (λ (e : (ℕ × List ℕ) × ℕ). of_session k e ≡ true) (λ (e : (ℕ × List ℕ) × ℕ). k.0 ≡ e.0.0) (λ e x. test_same k.0 e.0.0 x) h all) ok.1 in omega (arith, mine, few)
+      (ok.0, each-weaker (λ (e : (ℕ × List ℕ) × ℕ). of_session k e ≡ true) (λ (e : (ℕ × List ℕ) × ℕ). k.0 ≡ e.0.0) (λ e x. same_number k.0 e.0.0 x) h all) ok.1 in omega (arith, mine, few)
 
 holdings-counted : (s : GroupState) → IsSound s → IsOwned s → length s.semaphores.holdings ≤ 100000000
 holdings-counted s h o =

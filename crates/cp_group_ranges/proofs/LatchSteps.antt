@@ -9,6 +9,7 @@ use Rattle.std.specs.BTreeMap.{is_at}
 use Rattle.std.proofs.lemmas.Cmp.{nat_list_cmp_total}
 use Rattle.std.proofs.lemmas.List.Sums.{sum_by-cons}
 use Rattle.cp_base.specs.declared.identifier.Invocation.{Invocation}
+use Rattle.cp_base.proofs.Tests.{no_true}
 use Rattle.cp_grammar.specs.Common as spelled
 use Rattle.cp_grammar.specs.Common.{invocation}
 use Rattle.cp_object_ops.specs.declared.latch_op.LatchOp.{LatchOp}
@@ -19,7 +20,7 @@ use Rattle.cp_group_state.specs.declared.rows.LatchRow.{LatchRow}
 use Rattle.cp_group_state.specs.Rows.{Named, find, put, without, has_room, most, name_cmp}
 use Rattle.cp_group_state.specs.Latches.{LatchOutcome, LatchStep, Done, Wants, Opened, new_latch, or_new, latch_at, is_counted, counted_calls, most_counted, next_round, set_latch, counted_down, is_over, count_down, latch_step}
 use Rattle.cp_group_state.specs.Invariants.{IsRising}
-use Rattle.cp_group_state.proofs.Keyed.{name_key, no_true}
+use Rattle.cp_group_state.proofs.Keyed.{name_key}
 use Rattle.cp_group_state.proofs.Rising.{less-none, above-all}
 use Rattle.cp_group_state.proofs.Walk.{cases, either}
 use Rattle.cp_group_ranges.specs.Rows.{LatchFits}

@@ -1,6 +1,6 @@
 -- Lists of rows that keep a property, their order and their limit.
-use Rattle.std.proofs.Common.{◌≡◌, ℕ, ◌+◌, ◌<◌, ◌≤◌, Bool, true, false, not, ◌||◌, List, [], ◌∷◌, ◌++◌, map, length, Some, None, Option, refl, ap, sym, ◌∙◌, subst, arith, cond, is_some}
-use Rattle.std.specs.Prelude.{nat_lt, ◌==◌}
+use Rattle.std.proofs.Common.{◌≡◌, ℕ, ◌+◌, ◌<◌, ◌≤◌, Bool, true, false, ◌||◌, List, [], ◌∷◌, ◌++◌, map, length, Some, None, Option, refl, ap, sym, ◌∙◌, subst, arith, cond, is_some}
+use Rattle.std.specs.Prelude.{nat_lt}
 use Rattle.std.specs.declared.cmp.Ordering.{Ordering}
 use Rattle.std.specs.declared.cmp.Ordering.TheVariants.{Less, Equal, Greater}
 use Rattle.std.specs.Ordering.{match_ordering, is_eq}
@@ -10,12 +10,13 @@ use Rattle.std.specs.List.{filter, AllByRecursion}
 use Rattle.std.specs.List.Sorted.{IsStrictlySortedBy}
 use Rattle.std.specs.Map.{keys_of}
 use Rattle.std.proofs.lemmas.Bool.Decides.{nat_tests}
+use Rattle.std.proofs.lemmas.Option.{none-some}
+use Rattle.cp_base.proofs.Tests.{same_some, no_true}
 use Rattle.cp_group_state.specs.Rows.{find, put, without, has_room, most}
 use Rattle.cp_group_state.specs.Invariants.{IsRising}
-use Rattle.cp_group_state.proofs.Keyed.{IsKey, no_true, is_at_apart, equal_is, pair_same, find-put_same, find-put_other}
+use Rattle.cp_group_state.proofs.Keyed.{IsKey, is_at_apart, equal_is, pair_same, find-put_same, find-put_other}
 use Rattle.cp_group_state.proofs.Rising.{rising-put, rising-without, rising-filter, less-none, above-all}
 use Rattle.cp_group_state.proofs.Walk.{either}
-use Rattle.cp_group_state.proofs.Grows.{same_some}
 use Rattle.cp_group_state.proofs.Ordered.{keys-map}
 
 -- ---- lists
@@ -50,24 +51,14 @@ pub same-length : {X Y : Type 0} (f : X → Y) (xs : List X) → length (map f x
 same-length f [] = refl
 same-length f (x ∷ xs) = let rest = same-length f xs in omega (arith, rest)
 
-none_some : {X : Type 0} (x : X) → None ≡ Some x → ⊥
-none_some x e = cc
-
 -- ---- tests
 
 pub test_less : (a b : ℕ) → nat_lt a b ≡ true → a < b
 test_less a b h = grind (arith, nat_tests)
 
-pub test_same : (a b : ℕ) → (a == b) ≡ true → a ≡ b
-test_same a b h = grind (arith, nat_tests)
-
 pub or-right : (a b : Bool) → b ≡ true → (a || b) ≡ true
 or-right true b e = refl
 or-right false b e = e
-
-pub denied : (b : Bool) → not b ≡ true → b ≡ false
-denied true e = sym e
-denied false e = refl
 
 -- ---- rows
 
@@ -87,7 +78,7 @@ module _ {K X : Type 0} (cmp : K → K → Ordering) (key : IsKey cmp) (total : 
 
   -- the row that is found under a key
   pub each-find : (P : K × X → Type 0) (rows : List (K × X)) (k : K) (x : X) → AllByRecursion P rows → find cmp rows k ≡ Some x → P (k, x)
-  each-find P [] k x h is = absurd (none_some x is)
+  each-find P [] k x h is = absurd (none-some x is)
   each-find P (e ∷ es) k x h is = by (cmp k e.0) refl is (each-find P es k x h.1)
     where
       by : (o : Ordering) → cmp k e.0 ≡ o → cond (is_eq o) (Some e.1) (find cmp es k) ≡ Some x → (find cmp es k ≡ Some x → P (k, x)) → P (k, x)

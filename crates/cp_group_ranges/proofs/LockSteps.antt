@@ -4,6 +4,7 @@ use Rattle.std.specs.Prelude.{◌==◌, nat_lt}
 use Rattle.std.specs.List.{filter, AllByRecursion}
 use Rattle.std.proofs.lemmas.Bool.Decides.{nat_tests}
 use Rattle.std.proofs.lemmas.Cmp.{nat_list_cmp_total}
+use Rattle.cp_base.proofs.Tests.{no_true}
 use Rattle.cp_grammar.specs.Common as spelled
 use Rattle.cp_grammar.specs.Common.{index, thread_no}
 use Rattle.cp_answers.specs.Answers.{answer_grammar}
@@ -13,7 +14,7 @@ use Rattle.cp_group_state.specs.Rows.{Named, find, put, has_room, most, name_cmp
 use Rattle.cp_group_state.specs.Locks as locks
 use Rattle.cp_group_state.specs.Locks.{Acquired, Release, Taken, Fence, Limit, Full, Busy, free_lock, held_once, or_free, lock_at, is_free, is_held_by, is_held_among, most_holds, acquired, Freed, NotOwner, released_by, held_among, freed, freed_all}
 use Rattle.cp_group_state.specs.LockRules.{owner_answer}
-use Rattle.cp_group_state.proofs.Keyed.{name_key, no_true, find-put_same}
+use Rattle.cp_group_state.proofs.Keyed.{name_key, find-put_same}
 use Rattle.cp_group_state.proofs.Walk.{cases, either}
 use Rattle.cp_group_ranges.specs.Rows.{LockFits}
 use Rattle.cp_group_ranges.proofs.Listed.{Kept, kept-put, kept-there, kept-map, kept-or, each-both, each-filter, each-map, each-weaker, each-found, found-map}

@@ -4,7 +4,9 @@ use Rattle.std.specs.Prelude.{◌==◌, nat_lt, length, ℤ, pos, neg_ℤ, int_l
 use Rattle.std.specs.List.{filter, list_any, AllByRecursion}
 use Rattle.std.specs.Ordering.{nat_cmp}
 use Rattle.std.proofs.lemmas.Cmp.{nat_cmp_total}
+use Rattle.std.proofs.lemmas.Bool.{not-true}
 use Rattle.cp_base.specs.declared.identifier.Invocation.{Invocation}
+use Rattle.cp_base.proofs.Tests.{same_number, no_true}
 use Rattle.cp_op_values.specs.declared.kind.Kind.{Kind}
 use Rattle.cp_op_values.specs.declared.kind.Kind.TheVariants as kind
 use Rattle.cp_op_values.specs.declared.wish.Wish.{Wish}
@@ -48,12 +50,12 @@ use Rattle.cp_group_state.specs.LatchRules.{on_latch}
 use Rattle.cp_group_state.specs.SessionRules.{opened, beat, session_rule}
 use Rattle.cp_group_state.specs.Protected.{session_of_sem, session_in}
 use Rattle.cp_group_state.specs.Apply.{Applied, supersede, is_older, time_out, rule, outcome, remembered, settle, join, perform, by_memory, by_session, is_elsewhere, apply_call, apply}
-use Rattle.cp_group_state.proofs.Keyed.{no_true, number_key, holder_key, same_kind, find-filter_kept}
+use Rattle.cp_group_state.proofs.Keyed.{number_key, holder_key, same_kind, find-filter_kept}
 use Rattle.cp_group_state.proofs.Walk.{cases, either}
 use Rattle.cp_group_state.proofs.Told.{IsOwnWait, memory_of, own-outcome}
 use Rattle.cp_group_state.proofs.Ordered.{holding_key, holding_total}
 use Rattle.cp_group_ranges.specs.Owners.{IsOpen, IsOwned}
-use Rattle.cp_group_ranges.proofs.Listed.{each-append, each-filter, each-weaker, each-both, each-put, each-without, each-find, found-put, test_same, denied}
+use Rattle.cp_group_ranges.proofs.Listed.{each-append, each-filter, each-weaker, each-both, each-put, each-without, each-find, found-put}
 use Rattle.cp_group_ranges.proofs.Calls.{holder_total}
 use Rattle.cp_group_ranges.proofs.Walks.{ended-all, still-fails}
 
@@ -161,7 +163,7 @@ module _ (but : List ℕ) (rows : List (ℕ × SessionRow)) where
   left-of false b e = e
 
   waiter-open : (key : Object) (w : Waiter) → waits_on key.1 key.0 w ≡ true → WaiterOwned rows w → is_held key.1 ≡ true → IsOpen rows w.session
-  waiter-open key w waits there e = there (subst (λ (k : Kind). has_memory k ≡ true) (same_kind key.1 w.kind (test_same (kind_number key.1) (kind_number w.kind) (left-of (kind_number key.1 == kind_number w.kind) (bytes_eq key.0 w.name) waits))) (held-memory key.1 e))
+  waiter-open key w waits there e = there (subst (λ (k : Kind). has_memory k ≡ true) (same_kind key.1 w.kind (same_number (kind_number key.1) (kind_number w.kind) (left-of (kind_number key.1 == kind_number w.kind) (bytes_eq key.0 w.name) waits))) (held-memory key.1 e))
 
   own-served : (key : Object) (ws : List Waiter) (available : ℤ) (s : Semaphores) → AllByRecursion (WaiterOwned rows) ws → AllByRecursion (HoldingOwned but rows) s.holdings → AllByRecursion (HoldingOwned but rows) (take_all key (served key available ws) s).holdings
   own-served key [] available s h all = all
@@ -216,13 +218,13 @@ rest-owned : (sessions : List ℕ) (rows : List (ℕ × SessionRow)) (h : Holdin
 rest-owned sessions rows [] all = tt
 rest-owned sessions rows (e ∷ es) all = let rest = rest-owned sessions rows es all.1 in
     cases (AllByRecursion (HoldingOwned [] rows)) (not (is_among sessions e.0.0)) (e ∷ filter (λ e. not (is_among sessions e.0.0)) es) (filter (λ e. not (is_among sessions e.0.0)) es)
-    (λ stays. ((λ x. all.0 (denied (is_among sessions e.0.0) stays)), rest)) (λ stays. rest)
+    (λ stays. ((λ x. all.0 (not-true (is_among sessions e.0.0) stays)), rest)) (λ stays. rest)
 
 rest-memory : (sessions : List ℕ) (rows : List (ℕ × SessionRow)) (m : Memories) → AllByRecursion (MemoryOwned rows) m → AllByRecursion (MemoryOwned (filter (λ e. not (is_among sessions e.0)) rows)) (filter (λ e. not (is_among sessions e.0.0)) m)
 rest-memory sessions rows [] all = tt
 rest-memory sessions rows (e ∷ es) all = let rest = rest-memory sessions rows es all.1 in
     cases (AllByRecursion (MemoryOwned (filter (λ e. not (is_among sessions e.0)) rows))) (not (is_among sessions e.0.0)) (e ∷ filter (λ e. not (is_among sessions e.0.0)) es) (filter (λ e. not (is_among sessions e.0.0)) es)
-    (λ stays. (open-kept sessions rows e.0.0 (denied (is_among sessions e.0.0) stays) all.0, rest)) (λ stays. rest)
+    (λ stays. (open-kept sessions rows e.0.0 (not-true (is_among sessions e.0.0) stays) all.0, rest)) (λ stays. rest)
 
 -- the sessions end with their waiters and their memory, and their permits are still to go back
 own-end_sessions : (sessions : List ℕ) (s : GroupState) → Of [] s → Of sessions (end_sessions sessions s).state

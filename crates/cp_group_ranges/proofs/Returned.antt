@@ -6,6 +6,7 @@ use Rattle.std.specs.BTreeMap.{is_at}
 use Rattle.std.proofs.lemmas.Int.{ints}
 use Rattle.std.proofs.lemmas.Slice.Eq.{bytes_eq-Decides}
 use Rattle.std.proofs.lemmas.List.Sums.{sum_by-cons}
+use Rattle.cp_base.proofs.Tests.{no_true}
 use Rattle.cp_op_values.specs.declared.kind.Kind.{Kind}
 use Rattle.cp_op_values.specs.declared.kind.Kind.TheVariants as kind
 use Rattle.cp_group_state.specs.declared.rows.SemaphoreRow.{SemaphoreRow}
@@ -13,7 +14,7 @@ use Rattle.cp_group_state.specs.Rows.{Object, find, without, object_cmp, holding
 use Rattle.cp_group_state.specs.Sessions.{is_among}
 use Rattle.cp_group_state.specs.Semaphores.{Semaphores, is_held, held_together, with_back, all_back, sem_destroyed}
 use Rattle.cp_group_state.specs.Invariants.{IsBalanced, IsBalancedAt, held_by_all, held_of}
-use Rattle.cp_group_state.proofs.Keyed.{no_true, equal_is, pair_same, find-without_other, object_key}
+use Rattle.cp_group_state.proofs.Keyed.{equal_is, pair_same, find-without_other, object_key}
 use Rattle.cp_group_state.proofs.Rising.{rising-filter, find-without_same}
 use Rattle.cp_group_state.proofs.Walk.{either}
 use Rattle.cp_group_state.proofs.Ordered.{object_total, holding_total, holding_key}

@@ -4,6 +4,7 @@ use Rattle.std.specs.Prelude.{◌==◌}
 use Rattle.std.specs.List.{filter, AllByRecursion}
 use Rattle.std.specs.Ordering.{nat_cmp}
 use Rattle.cp_base.specs.declared.identifier.Invocation.{Invocation}
+use Rattle.cp_base.proofs.Tests.{same_some, no_true}
 use Rattle.cp_grammar.specs.Common as spelled
 use Rattle.cp_grammar.specs.Common.{index, invocation}
 use Rattle.cp_op_values.specs.declared.kind.Kind.{Kind}
@@ -44,8 +45,6 @@ use Rattle.cp_group_state.specs.LatchRules.{latch_wait, on_latch, latch_rule}
 use Rattle.cp_group_state.specs.SessionRules.{opened, beat, session_rule}
 use Rattle.cp_group_state.specs.Destroying.{object_of, names_gone}
 use Rattle.cp_group_state.specs.Apply.{rule, outcome}
-use Rattle.cp_group_state.proofs.Keyed.{no_true}
-use Rattle.cp_group_state.proofs.Grows.{same_some}
 use Rattle.cp_group_state.proofs.Walk.{cases, either}
 use Rattle.cp_group_ranges.specs.Rows.{SessionFits, WaiterFits, is_semaphore, can_wait}
 use Rattle.cp_group_ranges.specs.States.{HasSemaphore}

@@ -3,6 +3,7 @@ use Rattle.std.proofs.Common.{◌≡◌, ℕ, ◌+◌, ◌^◌, ◌<◌, ◌≤�
 use Rattle.std.specs.Prelude.{◌==◌, nat_lt}
 use Rattle.std.specs.List.{AllByRecursion}
 use Rattle.cp_base.specs.declared.identifier.Invocation.{Invocation}
+use Rattle.cp_base.proofs.Tests.{no_true}
 use Rattle.cp_grammar.specs.Fields.{optional}
 use Rattle.cp_grammar.specs.Common.{index, invocation}
 use Rattle.cp_answers.specs.declared.answer.Answer.{Answer}
@@ -28,7 +29,7 @@ use Rattle.cp_group_state.specs.Protected.{session_in}
 use Rattle.cp_group_state.specs.Apply.{Applied, told, changed, members_answer, outcome, remembered, settle, settle_wait, join, perform, give_again, by_memory, by_session, supersede, is_elsewhere, apply_call, apply, run}
 use Rattle.cp_group_state.specs.History.{History}
 use Rattle.cp_group_state.specs.Invariants.{IsOrdered, held_of, held_by_all}
-use Rattle.cp_group_state.proofs.Keyed.{no_true, object_key}
+use Rattle.cp_group_state.proofs.Keyed.{object_key}
 use Rattle.cp_group_state.proofs.Walk.{cases, either}
 use Rattle.cp_group_state.proofs.Ordered.{order-apply, order-empty, object_total}
 use Rattle.cp_group_ranges.specs.Rows.{SemaphoreFits, AnswerFits}

@@ -1,11 +1,13 @@
 -- Changes that end waiters keep states good, and what ends has an answer that fits.
-use Rattle.std.proofs.Common.{◌≡◌, ℕ, Bool, true, false, not, ◌&&◌, List, [], ◌∷◌, ◌++◌, map, Some, None, Option, refl, ap, sym, ◌∙◌, subst, is_some, if◌then◌else◌}
+use Rattle.std.proofs.Common.{◌≡◌, ℕ, Bool, true, false, not, List, [], ◌∷◌, ◌++◌, map, Some, None, Option, refl, ap, sym, ◌∙◌, subst, is_some, if◌then◌else◌}
 use Rattle.std.specs.Prelude.{◌==◌, ℤ, pos, int_lt, ◌-ℤ◌, bytes_eq}
 use Rattle.std.specs.List.{filter, list_any, AllByRecursion}
 use Rattle.std.proofs.lemmas.Cmp.{nat_list_cmp_total}
 use Rattle.std.proofs.lemmas.Slice.Eq.{bytes_eq-Decides}
+use Rattle.std.proofs.lemmas.Bool.{and_from}
 use Rattle.cp_base.specs.declared.identifier.GroupId.{GroupId}
 use Rattle.cp_base.specs.declared.identifier.Invocation.{Invocation}
+use Rattle.cp_base.proofs.Tests.{no_true, number_itself}
 use Rattle.cp_grammar.specs.Common as spelled
 use Rattle.cp_grammar.specs.Common.{index, group_id, invocation}
 use Rattle.cp_op_values.specs.declared.kind.Kind.{Kind}
@@ -28,8 +30,8 @@ use Rattle.cp_group_state.specs.Serving.{serve_from, serve, left_by, serve_left,
 use Rattle.cp_group_state.specs.Closing.{forget, free_locks, free_permits, concerned, end_sessions, close}
 use Rattle.cp_group_state.specs.Destroying.{add_gone, drop_rows}
 use Rattle.cp_group_state.specs.Apply.{supersede, is_older, time_out, destroy_group}
-use Rattle.cp_group_state.proofs.Keyed.{no_true, name_key, object_key, pair_key, is_at_apart, find-without_other}
-use Rattle.cp_group_state.proofs.Latches.{same_test, same_call_itself}
+use Rattle.cp_group_state.proofs.Keyed.{name_key, object_key, pair_key, is_at_apart, find-without_other}
+use Rattle.cp_group_state.proofs.Latches.{same_call_itself}
 use Rattle.cp_group_state.proofs.Walk.{cases, either}
 use Rattle.cp_group_state.proofs.Ordered.{object_total}
 use Rattle.cp_group_ranges.specs.Rows.{LockFits, LongFits, RefFits, PairFits, GoneFits, WaiterFits, MemoryFits}
@@ -172,12 +174,8 @@ still-fails test ended (w ∷ ws) h = let rest = still-fails test ended ws h.1 i
     fails false e k p = e
     fails true e k p = absurd (no_true (sym k ∙ ap not (p e)))
 
-both : (a b : Bool) → a ≡ true → b ≡ true → (a && b) ≡ true
-both true b e f = f
-both false b e f = e
-
 waits-there : (which : Kind) (n : List ℕ) (w : Waiter) → w.name ≡ n → w.kind ≡ which → waits_on which n w ≡ true
-waits-there which n w e f = both (kind_number which == kind_number w.kind) (bytes_eq n w.name) (subst (λ (k : Kind). (kind_number which == kind_number k) ≡ true) (sym f) (same_test (kind_number which))) ((bytes_eq-Decides n w.name).1 (sym e))
+waits-there which n w e f = and_from (kind_number which == kind_number w.kind) (bytes_eq n w.name) (subst (λ (k : Kind). (kind_number which == kind_number k) ≡ true) (sym f) (number_itself (kind_number which))) ((bytes_eq-Decides n w.name).1 (sym e))
 
 -- who waits for another semaphore has it still
 other-stands : (which : Kind) (n : List ℕ) (rows : List (Object × SemaphoreRow)) (w : Waiter) → HasSemaphore rows w → waits_on which n w ≡ false → HasSemaphore (without object_cmp rows (n, which)) w

@@ -9,6 +9,7 @@ use Rattle.std.proofs.Common.{arith}
 use Rattle.cp_op_values.specs.declared.kind.Kind.{Kind}
 use Rattle.cp_op_values.specs.declared.kind.Kind.TheVariants as kind
 use Rattle.cp_base.specs.declared.identifier.Invocation.{Invocation}
+use Rattle.cp_base.proofs.Tests.{no_true}
 use Rattle.cp_answers.specs.declared.answer.Answer.{Answer}
 use Rattle.cp_answers.specs.declared.answer.Answer.TheVariants as answer
 use Rattle.cp_op_values.specs.declared.wish.Wish.{Wish}
@@ -46,7 +47,7 @@ use Rattle.cp_group_state.specs.Closing.{end_sessions}
 use Rattle.cp_group_state.specs.Protected.{session_in}
 use Rattle.cp_group_state.specs.Fences.{IsHeldUnder}
 use Rattle.cp_group_state.specs.Apply.{Applied, apply, apply_call, by_session, by_memory, perform, settle, remembered, join, is_elsewhere, supersede, outcome, rule}
-use Rattle.cp_group_state.proofs.Keyed.{same_kind, no_true}
+use Rattle.cp_group_state.proofs.Keyed.{same_kind}
 use Rattle.cp_group_state.proofs.Walk.{All-closing, either, Closed, walk_supersede, walk_outcome, walk_on_latch, walk_close, walk_time_out, walk_end_all}
 use Rattle.cp_group_state.proofs.Established.{fewer_closed}
 use Rattle.cp_group_state.proofs.Told.{IsOwnWait, memory_of, own-outcome}

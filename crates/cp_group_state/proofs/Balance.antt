@@ -8,7 +8,6 @@ use Rattle.std.specs.BTreeMap.{is_at}
 use Rattle.std.specs.List.{filter}
 use Rattle.std.specs.List.Sorted.{IsStrictlySortedBy}
 use Rattle.std.proofs.lemmas.Bool.Decides.{nat_tests}
-use Rattle.std.proofs.lemmas.Slice.Eq.{bytes_eq-Decides}
 use Rattle.std.proofs.lemmas.List.Elements.{All-nil, All-cons, All-head, All-tail}
 use Rattle.std.proofs.lemmas.Map.Views.{All-values-insert_entry}
 use Rattle.std.specs.Map.{values_of}
@@ -17,6 +16,7 @@ use Rattle.std.proofs.Math.IntN.{+ℤ_assoc, +ℤ_comm, +ℤ_idr, -ℤ-+ℤ_canc
 use Rattle.cp_op_values.specs.declared.kind.Kind.{Kind}
 use Rattle.cp_op_values.specs.declared.kind.Kind.TheVariants as kind
 use Rattle.cp_base.specs.declared.identifier.Invocation.{Invocation}
+use Rattle.cp_base.proofs.Tests.{same_number, not_less, bytes_itself, bytes_same, no_true}
 use Rattle.cp_object_ops.specs.declared.sem_op.SemOp.{SemOp}
 use Rattle.cp_object_ops.specs.declared.sem_op.SemOp.TheVariants as sem
 use Rattle.cp_ops.specs.declared.op.Op.{Op}
@@ -33,7 +33,7 @@ use Rattle.cp_group_state.specs.Destroying.{add_gone, drop_rows}
 use Rattle.cp_group_state.specs.Protected.{session_in}
 use Rattle.cp_group_state.specs.Apply.{Applied, run, apply, apply_call, is_elsewhere, supersede}
 use Rattle.cp_group_state.specs.Invariants.{Always, HoldingsStand, IsBalanced, IsBalancedAt, held_by_all, held_of}
-use Rattle.cp_group_state.proofs.Keyed.{no_true, equal_is, pair_same, find-put_same, find-put_other, find-without_other, object_key}
+use Rattle.cp_group_state.proofs.Keyed.{equal_is, pair_same, find-put_same, find-put_other, find-without_other, object_key}
 use Rattle.cp_group_state.proofs.Rising.{Rising, rising-without, rising-filter, find-without_same, less-none, above-all}
 use Rattle.cp_group_state.proofs.Walk.{cases, either, Closed, walk_supersede, walk_outcome, walk_on_latch, walk_close, walk_time_out, keep_session}
 use Rattle.cp_group_state.proofs.Ordered.{SemsRise, object_total, holding_total, holding_key, take_all-rises, step-rises, keys-map}
@@ -51,31 +51,19 @@ back-int a n h = ap (λ (x : ℤ). a +ℤ x) (sym (pos-+ℤ-pos h n) ∙ +ℤ_co
 change-int : (a d b : ℤ) → (a +ℤ b) +ℤ d ≡ (a +ℤ d) +ℤ b
 change-int a d b = +ℤ_assoc a b d ∙ ap (λ (x : ℤ). a +ℤ x) (+ℤ_comm b d) ∙ sym (+ℤ_assoc a d b)
 
-test_same : (a b : ℕ) → (a == b) ≡ true → a ≡ b
-test_same a b h = grind (arith, nat_tests)
-
-not_less : (a b : ℕ) → nat_lt a b ≡ false → b ≤ a
-not_less a b h = grind (arith, nat_tests)
-
-name_itself : (a : List ℕ) → bytes_eq a a ≡ true
-name_itself a = (bytes_eq-Decides a a).1 refl
-
-name_same : (a b : List ℕ) → bytes_eq a b ≡ true → a ≡ b
-name_same a b h = (bytes_eq-Decides a b).0 h
-
 -- what is held of a name, after a change of one holding
 at-key : (name : List ℕ) (session : ℕ) (e : (ℕ × List ℕ) × ℕ) → holding_cmp (session, name) e.0 ≡ Equal → bytes_eq name e.0.1 ≡ true
-at-key name session e i = subst (λ (q : ℕ × List ℕ). bytes_eq name q.1 ≡ true) (holding_key.same (session, name) e.0 i) (name_itself name)
+at-key name session e i = subst (λ (q : ℕ × List ℕ). bytes_eq name q.1 ≡ true) (holding_key.same (session, name) e.0 i) (bytes_itself name)
 
 all-put : (name : List ℕ) (session n : ℕ) (h : Holdings) → Rising holding_cmp h → held_by_all name (put holding_cmp h (session, name) n) + held h session name ≡ held_by_all name h + n
 unfolding IsStrictlySortedBy
-all-put name session n [] r = rw (name_itself name) (omega arith)
+all-put name session n [] r = rw (bytes_itself name) (omega arith)
 all-put name session n (e ∷ es) r = by (all-put name session n es r.1) (holding_cmp (session, name) e.0) refl
   where
     by : held_by_all name (put holding_cmp es (session, name) n) + held es session name ≡ held_by_all name es + n → (o : Ordering) → holding_cmp (session, name) e.0 ≡ o
         → held_by_all name (match_ordering o (((session, name), n) ∷ e ∷ es) ((e.0, n) ∷ es) (e ∷ put holding_cmp es (session, name) n)) + unwrap_or (cond (is_eq o) (Some e.1) (find holding_cmp es (session, name))) 0 ≡ held_by_all name (e ∷ es) + n
     by rest Less i = let none : find holding_cmp es (session, name) ≡ None = less-none holding_cmp holding_key holding_total (session, name) es (above-all holding_cmp holding_key holding_total (session, name) e.0 es i r.0) in
-        rw (none, name_itself name) (omega arith)
+        rw (none, bytes_itself name) (omega arith)
     by rest Equal i = rw (at-key name session e i) (omega arith)
     by rest Greater i = omega arith
 
@@ -91,7 +79,7 @@ all-without name session (e ∷ es) = by (all-without name session es) (holding_
 
 all-set : (name : List ℕ) (session n : ℕ) (h : Holdings) → Rising holding_cmp h → held_by_all name (set_held h session name n) + held h session name ≡ held_by_all name h + n
 all-set name session n h r = cases (λ (x : Holdings). held_by_all name x + held h session name ≡ held_by_all name h + n) (n == 0) _ _
-    (λ e. let z : n ≡ 0 = test_same n 0 e in let a = all-without name session h in omega arith) (λ e. all-put name session n h r)
+    (λ e. let z : n ≡ 0 = same_number n 0 e in let a = all-without name session h in omega arith) (λ e. all-put name session n h r)
 
 other-at : (name q : List ℕ) (session : ℕ) (e : (ℕ × List ℕ) × ℕ) → bytes_eq q name ≡ false → holding_cmp (session, name) e.0 ≡ Equal → bytes_eq q e.0.1 ≡ false
 other-at name q session e far i = subst (λ (k : ℕ × List ℕ). bytes_eq q k.1 ≡ false) (holding_key.same (session, name) e.0 i) far
@@ -134,7 +122,7 @@ names-apart q key a b far = at (bytes_eq q.0 key.0) refl
   where
     at : (c : Bool) → bytes_eq q.0 key.0 ≡ c → bytes_eq q.0 key.0 ≡ false
     at false e = e
-    at true e = let same : q ≡ key = pair_same q key (name_same q.0 key.0 e) (held-kind q.1 a ∙ sym (held-kind key.1 b)) in
+    at true e = let same : q ≡ key = pair_same q key (bytes_same q.0 key.0 e) (held-kind q.1 a ∙ sym (held-kind key.1 b)) in
         let itself : is_at (object_cmp key) key ≡ true = ap is_eq (object_key.here key) in
         absurd (no_true (sym (subst (λ (x : Object). is_at (object_cmp x) key ≡ true) (sym same) itself) ∙ far))
 
@@ -294,7 +282,7 @@ others-left name q [] far = refl
 others-left name q (e ∷ es) far = by (bytes_eq name e.0.1) refl (others-left name q es far)
   where
     by : (c : Bool) → bytes_eq name e.0.1 ≡ c → held_by_all q (filter (λ e. not (bytes_eq name e.0.1)) es) ≡ held_by_all q es → held_by_all q (if (not c) then e ∷ filter (λ e. not (bytes_eq name e.0.1)) es else filter (λ e. not (bytes_eq name e.0.1)) es) ≡ held_by_all q (e ∷ es)
-    by true i rest = let away : bytes_eq q e.0.1 ≡ false = subst (λ (x : List ℕ). bytes_eq q x ≡ false) (name_same name e.0.1 i) far in rw away (omega arith)
+    by true i rest = let away : bytes_eq q e.0.1 ≡ false = subst (λ (x : List ℕ). bytes_eq q x ≡ false) (bytes_same name e.0.1 i) far in rw away (omega arith)
     by false i rest = omega arith
 
 all-left : (q : List ℕ) (h : Holdings) → held_by_all q (filter (λ e. true) h) ≡ held_by_all q h

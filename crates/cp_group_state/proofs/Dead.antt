@@ -4,6 +4,7 @@ use Rattle.std.specs.Prelude.{◌==◌, Contains}
 use Rattle.cp_op_values.specs.declared.kind.Kind.{Kind}
 use Rattle.cp_op_values.specs.declared.kind.Kind.TheVariants as kind
 use Rattle.cp_base.specs.declared.identifier.Invocation.{Invocation}
+use Rattle.cp_base.proofs.Tests.{no_true}
 use Rattle.cp_answers.specs.declared.answer.Answer.TheVariants as answer
 use Rattle.cp_ops.specs.declared.op.Op.{Op}
 use Rattle.cp_ops.specs.declared.entry.Entry.{Entry}
@@ -18,7 +19,6 @@ use Rattle.cp_group_state.specs.Destroying.{drop_rows}
 use Rattle.cp_group_state.specs.Closing.{close}
 use Rattle.cp_group_state.specs.Serving.{serve_left}
 use Rattle.cp_group_state.specs.Changes.{for_each}
-use Rattle.cp_group_state.proofs.Keyed.{no_true}
 use Rattle.cp_group_state.proofs.Walk.{either, Closed, walk_supersede, walk_outcome, walk_on_latch, walk_close, walk_time_out, walk_end_all, keep_session}
 use Rattle.cp_group_state.proofs.Established.{fewer_closed}
 use Rattle.cp_group_state.proofs.Waiting.{in-ending, still-apart}

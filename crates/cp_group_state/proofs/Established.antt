@@ -8,6 +8,7 @@ use Rattle.std.specs.BTreeMap.{is_at}
 use Rattle.cp_op_values.specs.declared.kind.Kind.{Kind}
 use Rattle.cp_op_values.specs.declared.kind.Kind.TheVariants as kind
 use Rattle.cp_base.specs.declared.identifier.Invocation.{Invocation}
+use Rattle.cp_base.proofs.Tests.{no_true}
 use Rattle.cp_answers.specs.declared.answer.Answer.{Answer}
 use Rattle.cp_answers.specs.declared.answer.Answer.TheVariants as answer
 use Rattle.cp_object_ops.specs.declared.latch_op.LatchOp.TheVariants as latch
@@ -30,7 +31,7 @@ use Rattle.cp_group_state.specs.LatchRules.{on_latch}
 use Rattle.cp_group_state.specs.Protected.{down_in}
 use Rattle.cp_group_state.specs.Repeats.{is_full_answer}
 use Rattle.cp_group_state.specs.History.{IsReached}
-use Rattle.cp_group_state.proofs.Keyed.{equal_is, no_true, find-put_same, find-without_other, holder_key, name_key}
+use Rattle.cp_group_state.proofs.Keyed.{equal_is, find-put_same, find-without_other, holder_key, name_key}
 use Rattle.cp_group_state.proofs.Walk.{cases, either, Closed, walk_on_latch, walk_supersede, keep_settle}
 use Rattle.cp_group_state.proofs.Grows.{Reaches, Grows, Over, grows_closed, gone-put, gone-put_same}
 use Rattle.cp_group_state.proofs.Latches.{down-over, same_call_itself}

@@ -1,13 +1,15 @@
 -- Fences rise, and a lock has one owner under each fence.
-use Rattle.std.proofs.Common.{◌≡◌, ℕ, zero, suc, ◌+◌, ◌-◌, ◌<◌, ◌≤◌, ◌⊎◌, inl, inr, Bool, true, false, not, ◌&&◌, List, [], ◌∷◌, map, Some, refl, ap, sym, ◌∙◌, subst, arith, if◌then◌else◌}
+use Rattle.std.proofs.Common.{◌≡◌, ℕ, zero, suc, ◌+◌, ◌-◌, ◌<◌, ◌≤◌, ◌⊎◌, inl, inr, Bool, true, false, not, List, [], ◌∷◌, map, Some, refl, ap, sym, ◌∙◌, subst, arith, if◌then◌else◌}
 use Rattle.std.specs.Prelude.{◌==◌, nat_lt, slice_get}
 use Rattle.std.specs.BTreeMap.{is_at}
 use Rattle.std.proofs.lemmas.Cmp.{nat_list_cmp_total}
 use Rattle.std.specs.List.Sorted.{IsStrictlySortedBy}
 use Rattle.std.specs.Map.{keys_of}
+use Rattle.std.proofs.lemmas.Bool.{not-true}
 use Rattle.cp_op_values.specs.declared.kind.Kind.{Kind}
 use Rattle.cp_op_values.specs.declared.kind.Kind.TheVariants as kind
 use Rattle.cp_base.specs.declared.identifier.Invocation.{Invocation}
+use Rattle.cp_base.proofs.Tests.{first_true, no_true}
 use Rattle.cp_ops.specs.declared.op.Op.{Op}
 use Rattle.cp_ops.specs.declared.entry.Entry.{Entry}
 use Rattle.cp_ops.specs.declared.entry.Entry.TheVariants as entry
@@ -21,7 +23,7 @@ use Rattle.cp_group_state.specs.Apply.{Applied, run, apply, apply_call, is_elsew
 use Rattle.cp_group_state.specs.Protected.{session_in}
 use Rattle.cp_group_state.specs.Destroying.{add_gone, drop_rows}
 use Rattle.cp_group_state.specs.Fences.{IsSameHold, FencesRise}
-use Rattle.cp_group_state.proofs.Keyed.{equal_is, no_true, find-put_same, find-put_other, find-without_other, name_key}
+use Rattle.cp_group_state.proofs.Keyed.{equal_is, find-put_same, find-put_other, find-without_other, name_key}
 use Rattle.cp_group_state.proofs.Rising.{Rising, rising-put, rising-without, find-without_same}
 use Rattle.cp_group_state.proofs.Walk.{cases, either, Closed, walk_supersede, walk_outcome, walk_on_latch, walk_close, walk_time_out, keep_session}
 
@@ -85,14 +87,6 @@ freed-at i sessions (e ∷ es) name = at (is_at (name_cmp name) e.0) (freed-at i
 pub locks-freed : (i : ℕ) (sessions : List ℕ) (rows : List (List ℕ × LockRow)) → LocksHold i rows (freed_all sessions rows)
 locks-freed i sessions rows h = (subst (IsStrictlySortedBy name_cmp) (sym (freed-keys sessions rows)) h, λ name. freed-at i sessions rows name)
 
-and-first : (a b : Bool) → (a && b) ≡ true → a ≡ true
-and-first true b h = refl
-and-first false b h = h
-
-not-free : (a : Bool) → not a ≡ true → a ≡ false
-not-free true h = sym h
-not-free false h = refl
-
 pub locks-acquired : (i : ℕ) (rows : List (List ℕ × LockRow)) (name : List ℕ) (who : Holder) (limit : ℕ) → LocksHold i rows (acquired rows i name who limit).rows
 locks-acquired i rows name who limit = let row = lock_at rows name in
     cases (λ (r : Acquired). LocksHold i rows r.rows) (is_free row) _ _
@@ -105,7 +99,7 @@ pub locks-released : (i : ℕ) (rows : List (List ℕ × LockRow)) (name : List 
 locks-released i rows name who = let row = lock_at rows name in
     cases (λ (r : Release). LocksHold i rows r.rows) (is_held_by who row) _ _
     (λ e. either (λ (r : Release). LocksHold i rows r.rows) (row.holds == 1) _ _ (locks-put i rows name free_lock (inl refl))
-    (locks-put i rows name (record row { holds = row.holds - 1 }) (inr (inr (not-free (is_free row) (and-first (not (is_free row)) _ e), (refl, refl))))))
+    (locks-put i rows name (record row { holds = row.holds - 1 }) (inr (inr (not-true (is_free row) (first_true (not (is_free row)) _ e), (refl, refl))))))
     (λ e. locks-same i rows)
 
 locks-drop : (i : ℕ) (name : List ℕ) (which : Kind) (s : GroupState) → LocksHold i s.locks (add_gone (name, which) (drop_rows name which s)).locks

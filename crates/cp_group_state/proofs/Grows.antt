@@ -10,6 +10,7 @@ use Rattle.cp_base.specs.declared.identifier.Invocation.{Invocation}
 use Rattle.cp_answers.specs.declared.answer.Answer.{Answer}
 use Rattle.cp_base.specs.declared.identifier.ClientId.{ClientId}
 use Rattle.cp_base.specs.declared.identifier.ThreadNo.{ThreadNo}
+use Rattle.cp_base.proofs.Tests.{same_some, no_true}
 use Rattle.cp_group_state.specs.Rows.{find, put, without, name_cmp, object_cmp, holder_cmp}
 use Rattle.cp_group_state.specs.Waiters.{Ended}
 use Rattle.cp_group_state.specs.Memory.{MemoryRow, has_memory, remember, note, note_at, note_all}
@@ -19,15 +20,12 @@ use Rattle.cp_group_state.specs.Closing.{end_sessions, forget}
 use Rattle.cp_group_state.specs.GroupState.{GroupState}
 use Rattle.cp_group_state.specs.Changes.{finish}
 use Rattle.cp_group_state.specs.Destroying.{add_gone, drop_rows, is_gone}
-use Rattle.cp_group_state.proofs.Keyed.{no_true, equal_is, is_at_apart, find-put_same, find-put_other, find-filter_kept, find-filter_gone, find-without_other, number_key, name_key, object_key, holder_key}
+use Rattle.cp_group_state.proofs.Keyed.{equal_is, is_at_apart, find-put_same, find-put_other, find-filter_kept, find-filter_gone, find-without_other, number_key, name_key, object_key, holder_key}
 use Rattle.cp_group_state.proofs.Walk.{either, Closed}
 
 -- the row of a thread has at least this number
 abbrev pub Reaches : List ((ℕ × ℕ) × MemoryRow) → ℕ × ℕ → ℕ → Type 0
 Reaches rows key n = (row : MemoryRow) × (find holder_cmp rows key ≡ Some row) × (n ≤ row.number)
-
-pub same_some : {X : Type 0} {x y : X} → Some x ≡ Some y → x ≡ y
-same_some e = cc
 
 pub remember-reaches : (rows : List ((ℕ × ℕ) × MemoryRow)) (session : ℕ) (thread : ThreadNo) (number : ℕ) (a : Option Answer) (q : ℕ × ℕ) (n : ℕ) → ((row : MemoryRow) → find holder_cmp rows (session, thread.0) ≡ Some row → row.number ≤ number) → Reaches rows q n → Reaches (remember rows session thread number a) q n
 remember-reaches rows session thread number a q n most r = by (is_at (holder_cmp q) (session, thread.0)) refl where

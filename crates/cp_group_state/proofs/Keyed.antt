@@ -14,6 +14,7 @@ use Rattle.cp_op_values.specs.declared.kind.Kind.TheVariants as kind
 use Rattle.cp_base.specs.declared.identifier.ClientId.{ClientId}
 use Rattle.cp_base.specs.declared.identifier.ThreadNo.{ThreadNo}
 use Rattle.std.proofs.lemmas.Slice.Eq.{bytes_eq-Decides}
+use Rattle.cp_base.proofs.Tests.{no_true}
 use Rattle.cp_group_state.specs.Rows.{find, put, without, name_cmp, object_cmp, holder_cmp, pair_cmp, kind_number}
 use Rattle.cp_group_state.specs.Waiters.{same_client}
 
@@ -21,9 +22,6 @@ use Rattle.cp_group_state.specs.Waiters.{same_client}
 pub record IsKey {K : Type 0} (cmp : K → K → Ordering) : Type 0 where
   pub here : (k : K) → cmp k k ≡ Equal
   pub same : (k q : K) → cmp k q ≡ Equal → k ≡ q
-
-pub no_true : true ≡ false → ⊥
-no_true e = cc
 
 pub equal_is : (o : Ordering) → is_eq o ≡ true → o ≡ Equal
 equal_is Less h = cc

@@ -5,6 +5,7 @@ use Rattle.std.proofs.lemmas.Bool.Decides.{nat_tests}
 use Rattle.std.specs.List.{list_any}
 use Rattle.std.specs.BTreeMap.{is_at}
 use Rattle.cp_base.specs.declared.identifier.Invocation.{Invocation}
+use Rattle.cp_base.proofs.Tests.{number_itself}
 use Rattle.cp_answers.specs.declared.answer.Answer.TheVariants as answer
 use Rattle.cp_object_ops.specs.declared.latch_op.LatchOp.{LatchOp}
 use Rattle.cp_object_ops.specs.declared.latch_op.LatchOp.TheVariants as latch
@@ -15,14 +16,11 @@ use Rattle.cp_group_state.proofs.Keyed.{client-itself, equal_is, find-put_same, 
 use Rattle.cp_group_state.proofs.Walk.{cases, either}
 use Rattle.cp_group_state.proofs.Grows.{Over}
 
-pub same_test : (a : ℕ) → (a == a) ≡ true
-same_test a = grind (arith, nat_tests)
-
 pub apart_test : (a b : ℕ) → a < b → (a == b) ≡ false
 apart_test a b h = grind (arith, nat_tests)
 
 pub same_call_itself : (call : Invocation) → same_call call call ≡ true
-same_call_itself call = rw (client-itself call.client, same_test call.thread.0, same_test call.number)
+same_call_itself call = rw (client-itself call.client, number_itself call.thread.0, number_itself call.number)
 
 put-at : (rows : List (List ℕ × LatchRow)) (name : List ℕ) (row : LatchRow) → latch_at (put name_cmp rows name row) name ≡ row
 put-at rows name row = rw (find-put_same name_cmp name_key rows name row)

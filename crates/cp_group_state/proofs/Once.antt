@@ -1,11 +1,12 @@
 -- Each call acts at most once.
 use Rattle.std.proofs.Common.{◌≡◌, ℕ, suc, ◌+◌, ◌-◌, ◌^◌, ◌<◌, ◌≤◌, ◌⊎◌, inl, inr, Bool, true, false, not, ◌&&◌, ◌||◌, List, [], ◌∷◌, ◌++◌, Some, None, Option, refl, ap, sym, ◌∙◌, subst, arith, if◌then◌else◌}
 use Rattle.std.specs.Prelude.{◌==◌, nat_lt, is_some, Contains, length}
-use Rattle.std.proofs.lemmas.Bool.Decides.{nat_tests}
 use Rattle.std.proofs.lemmas.List.Elements.{Contains-append_left, Contains-append_right, Contains-push, Contains-push_cases, Contains-append_cases, All-nil}
 use Rattle.std.specs.List.{list_any}
+use Rattle.std.proofs.lemmas.Bool.{and_parts}
 use Rattle.cp_op_values.specs.declared.kind.Kind.TheVariants as kind
 use Rattle.cp_base.specs.declared.identifier.Invocation.{Invocation}
+use Rattle.cp_base.proofs.Tests.{same_some, no_true, same_number, number_itself}
 use Rattle.cp_answers.specs.declared.answer.Answer.{Answer}
 use Rattle.cp_answers.specs.declared.answer.Answer.TheVariants as answer
 use Rattle.cp_object_ops.specs.declared.latch_op.LatchOp.TheVariants as latch
@@ -29,9 +30,9 @@ use Rattle.cp_group_state.specs.Destroying.{is_gone}
 use Rattle.cp_group_state.specs.Protected.{down_in, is_protected}
 use Rattle.cp_group_state.specs.Repeats.{EntryOrRepeat, apply_or_repeat, apply_repeat, run_without_repeats, is_refused, is_full_answer, settled_by, without_repeat, without_repeats_from, IsOwnAnswer, MayAnswer, IsRepeat, SameAnswers, Agree, ActsAtMostOnce}
 use Rattle.cp_group_state.specs.History.{IsBelow, IsReached, IsOrderlyAt, IsOrderlyFrom, IsOrderly}
-use Rattle.cp_group_state.proofs.Keyed.{no_true, same-client, same-thread}
+use Rattle.cp_group_state.proofs.Keyed.{same-client, same-thread}
 use Rattle.cp_group_state.proofs.Walk.{cases, either, walk_supersede, walk_outcome, walk_on_latch, walk_close, walk_time_out, walk_end_all}
-use Rattle.cp_group_state.proofs.Grows.{Grows, same_some, grows_on}
+use Rattle.cp_group_state.proofs.Grows.{Grows, grows_on}
 use Rattle.cp_group_state.proofs.Steps.{RoundsWithin, grows-supersede, grows-outcome, within-supersede, grows-apply, within-apply}
 use Rattle.cp_group_state.proofs.Settled.{Settled, dead, alive, SettledSession, SettledDown, grows-settled, grows-settled_session, grows-settled_down, later, Again, again, down-shape}
 use Rattle.cp_group_state.proofs.Established.{fewer_closed, reached-supersede, StandsSettled, session-settled, down-perform, DownSettled, list_any-right}
@@ -40,19 +41,9 @@ use Rattle.cp_group_state.proofs.Waiting.{Waiting, waiting_row, waits-apply, wai
 use Rattle.cp_group_state.proofs.Opened.{Opened, opened-apply, opened-supersede}
 use Rattle.cp_group_state.proofs.Dead.{NoneLeft, left-apply}
 
-test_same : (a b : ℕ) → (a == b) ≡ true → a ≡ b
-test_same a b h = grind (arith, nat_tests)
-
-number_itself : (n : ℕ) → (n == n) ≡ true
-number_itself n = grind (arith, nat_tests)
-
-and_true : (a b : Bool) → (a && b) ≡ true → (a ≡ true) × (b ≡ true)
-and_true true b h = (refl, h)
-and_true false b h = absurd (no_true (sym h))
-
 pub same-call : (a b : Invocation) → same_call a b ≡ true → a ≡ b
-same-call a b h = let x = and_true (same_client a.client b.client) _ h in let y = and_true (a.thread.0 == b.thread.0) (a.number == b.number) x.1 in
-    let c = same-client a.client b.client x.0 in let t = same-thread a.thread b.thread (test_same a.thread.0 b.thread.0 y.0) in let n = test_same a.number b.number y.1 in
+same-call a b h = let x = and_parts (same_client a.client b.client) _ h in let y = and_parts (a.thread.0 == b.thread.0) (a.number == b.number) x.1 in
+    let c = same-client a.client b.client x.0 in let t = same-thread a.thread b.thread (same_number a.thread.0 b.thread.0 y.0) in let n = same_number a.number b.number y.1 in
     λ j. record { client = c j; thread = t j; number = n j }
 
 any-some : {X : Type 0} (test : X → Bool) (xs : List X) → list_any test xs ≡ true → (x : X) × Contains xs x × (test x ≡ true)
@@ -438,7 +429,7 @@ module _ (all : List Entry) (one : OneOp all) where
 
   same-step : (b i : ℕ) (seen : List Invocation) (past : List (Invocation × Answer)) (e : Entry) (s : GroupState) → Well all b i seen past s → Contains all e → SameStep i past e s (without_repeat seen e)
   same-step b i seen past (entry.Call call o) s well there = cases (SameStep i past (entry.Call call o) s) (is_protected o && list_any (same_call call) seen) _ _
-      (λ e. let x = and_true (is_protected o) _ e in let found = any-some (same_call call) seen x.1 in
+      (λ e. let x = and_parts (is_protected o) _ e in let found = any-some (same_call call) seen x.1 in
       let same : call ≡ found.0 = same-call call found.0 found.2 in
       let done : Settled i s call o = subst (λ c. Settled i s c o) (sym same) (well.settled found.0 found.1 o (subst (λ c. Contains all (entry.Call c o)) same there) x.0) in
       let r : Repeats i past call o s = repeats i past call o s x.0 done well.answers (λ w h e. well.origin w h o (subst (λ c. Contains all (entry.Call c o)) (sym e) there)) well.waiting well.opened well.left in

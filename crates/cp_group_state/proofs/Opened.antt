@@ -25,12 +25,13 @@ use Rattle.cp_ops.specs.declared.op.Op.TheVariants as op
 use Rattle.cp_ops.specs.declared.entry.Entry.{Entry}
 use Rattle.cp_ops.specs.declared.entry.Entry.TheVariants as entry
 use Rattle.cp_base.specs.declared.identifier.ClientId.{ClientId}
+use Rattle.cp_base.proofs.Tests.{same_some}
 use Rattle.cp_group_state.specs.Rows.{find, put, has_room, most, object_cmp}
 use Rattle.cp_group_state.specs.Waiters.{Waiter, stands}
 use Rattle.cp_group_state.specs.Memory.{MemoryRow, has_memory}
 use Rattle.cp_group_state.specs.Sessions.{SessionRow, is_of, is_open_for, is_among, beaten, session_of, unchanged_since}
 use Rattle.cp_group_state.specs.Locks.{Taken, Fence, Limit, Full, Busy, Released, Freed, Kept, NotOwner}
-use Rattle.cp_group_state.specs.Semaphores.{Semaphores, sem_step, SemOutcome}
+use Rattle.cp_group_state.specs.Semaphores.{sem_step, SemOutcome}
 use Rattle.cp_group_state.specs.Semaphores as semaphore
 use Rattle.cp_group_state.specs.Latches.{LatchOutcome, latch_step}
 use Rattle.cp_group_state.specs.Latches as countdown
@@ -47,7 +48,7 @@ use Rattle.cp_group_state.specs.Destroying.{names_gone, object_of, add_gone, dro
 use Rattle.cp_group_state.specs.Closing.{end_sessions}
 use Rattle.cp_group_state.proofs.Keyed.{equal_is, find-put_same, find-put_other, find-filter_kept, number_key, is_at_apart}
 use Rattle.cp_group_state.proofs.Walk.{cases, either, Closed, walk_on_latch, walk_supersede, walk_outcome, walk_close, walk_time_out, walk_end_all}
-use Rattle.cp_group_state.proofs.Grows.{same_some, forget-opened, opens-opened, beats-opened}
+use Rattle.cp_group_state.proofs.Grows.{forget-opened, opens-opened, beats-opened}
 use Rattle.cp_group_state.proofs.Established.{fewer_closed}
 use Rattle.cp_group_state.proofs.Told.{IsOwnWait, memory-session, own-outcome}
 use Rattle.cp_group_state.proofs.Waiting.{Owns, in-ending, still-apart}

@@ -2,8 +2,10 @@
 use Rattle.std.proofs.Common.{◌≡◌, ℕ, ◌+◌, ◌<◌, ◌≤◌, ◌⊎◌, inl, inr, Bool, true, false, List, [], ◌∷◌, Some, None, Option, refl, ap, sym, ◌∙◌, subst, arith, if◌then◌else◌}
 use Rattle.std.specs.Prelude.{◌==◌, nat_lt, is_some}
 use Rattle.std.proofs.lemmas.Bool.Decides.{nat_tests}
+use Rattle.std.proofs.lemmas.Option.{none-some}
 use Rattle.cp_op_values.specs.declared.kind.Kind.TheVariants as kind
 use Rattle.cp_base.specs.declared.identifier.Invocation.{Invocation}
+use Rattle.cp_base.proofs.Tests.{same_some, no_true, same_number}
 use Rattle.cp_answers.specs.declared.answer.Answer.{Answer}
 use Rattle.cp_answers.specs.declared.answer.Answer.TheVariants as answer
 use Rattle.cp_object_ops.specs.declared.latch_op.LatchOp.{LatchOp}
@@ -19,8 +21,7 @@ use Rattle.cp_group_state.specs.Protected.{session_in}
 use Rattle.cp_group_state.specs.Destroying.{is_gone}
 use Rattle.cp_group_state.specs.Protected.{down_in, is_protected}
 use Rattle.cp_group_state.specs.Repeats.{IsOwnAnswer}
-use Rattle.cp_group_state.proofs.Keyed.{no_true}
-use Rattle.cp_group_state.proofs.Grows.{Reaches, Grows, Over, same_some}
+use Rattle.cp_group_state.proofs.Grows.{Reaches, Grows, Over}
 use Rattle.cp_group_state.proofs.Latches.{down-again}
 
 abbrev pub SettledSession : ℕ → GroupState → Invocation → Option ℕ → Type 0
@@ -126,12 +127,6 @@ pub record Again (i : ℕ) (s : GroupState) (call : Invocation) (o : Op) : Type 
   pub by : (session : ℕ) → session_in o ≡ Some session → own ≡ again_by_session s call (Some session)
   pub from : ((a : Answer) → own ≡ Some a → IsOwnAnswer o a ⊎ ((session : ℕ) × (row : MemoryRow) × (session_in o ≡ Some session) × (is_open_for s.sessions session call.client ≡ true) × (find holder_cmp s.memory (session, call.thread.0) ≡ Some row) × (row.number ≡ call.number) × (row.answer ≡ Some a)))
 
-test_same : (a b : ℕ) → (a == b) ≡ true → a ≡ b
-test_same a b h = grind (arith, nat_tests)
-
-none_some : {X : Type 0} (x : X) → None ≡ Some x → ⊥
-none_some x e = cc
-
 session-from : (s : GroupState) (call : Invocation) (o : Op) (session : ℕ) → session_in o ≡ Some session → (a : Answer) → again_by_session s call (Some session) ≡ Some a
     → IsOwnAnswer o a ⊎ ((session : ℕ) × (row : MemoryRow) × (session_in o ≡ Some session) × (is_open_for s.sessions session call.client ≡ true) × (find holder_cmp s.memory (session, call.thread.0) ≡ Some row) × (row.number ≡ call.number) × (row.answer ≡ Some a))
 session-from s call o session so a is = at (is_open_for s.sessions session call.client) refl is
@@ -143,11 +138,11 @@ session-from s call o session so a is = at (is_open_for s.sessions session call.
     own b h e = subst (IsOwnAnswer o) e h
 
     by_row : (row : Option MemoryRow) → find holder_cmp s.memory (session, call.thread.0) ≡ row → is_open_for s.sessions session call.client ≡ true → again_by_memory call row ≡ Some a → IsOwnAnswer o a ⊎ ((session : ℕ) × (row : MemoryRow) × (session_in o ≡ Some session) × (is_open_for s.sessions session call.client ≡ true) × (find holder_cmp s.memory (session, call.thread.0) ≡ Some row) × (row.number ≡ call.number) × (row.answer ≡ Some a))
-    by_row None there opened e = absurd (none_some a e)
+    by_row None there opened e = absurd (none-some a e)
     by_row (Some row) there opened e = by_number (row.number == call.number) refl e
       where
         by_number : (b : Bool) → (row.number == call.number) ≡ b → (if b then row.answer else Some (answer.Stale row.number)) ≡ Some a → IsOwnAnswer o a ⊎ ((session : ℕ) × (row : MemoryRow) × (session_in o ≡ Some session) × (is_open_for s.sessions session call.client ≡ true) × (find holder_cmp s.memory (session, call.thread.0) ≡ Some row) × (row.number ≡ call.number) × (row.answer ≡ Some a))
-        by_number true n e = inr (session, row, so, opened, there, test_same row.number call.number n, e)
+        by_number true n e = inr (session, row, so, opened, there, same_number row.number call.number n, e)
         by_number false n e = inl (own (answer.Stale row.number) tt (same_some e))
 
     at : (b : Bool) → is_open_for s.sessions session call.client ≡ b → (if b then again_by_memory call (find holder_cmp s.memory (session, call.thread.0)) else Some (answer.SessionExpired session)) ≡ Some a → IsOwnAnswer o a ⊎ ((session : ℕ) × (row : MemoryRow) × (session_in o ≡ Some session) × (is_open_for s.sessions session call.client ≡ true) × (find holder_cmp s.memory (session, call.thread.0) ≡ Some row) × (row.number ≡ call.number) × (row.answer ≡ Some a))
@@ -156,7 +151,7 @@ session-from s call o session so a is = at (is_open_for s.sessions session call.
 
 again-down : (i : ℕ) (s : GroupState) (call : Invocation) (name : List ℕ) (round : ℕ) → SettledDown s call (Some (name, round)) → Again i s call (op.Latch name (latch.Down round))
 again-down i s call name round h = let x = down-step i s call name round h in
-    record { own = Some x.0; step = x.1; by = λ session e. absurd (none_some session e); from = λ a e. inl (subst (IsOwnAnswer (op.Latch name (latch.Down round))) (same_some e) x.2) }
+    record { own = Some x.0; step = x.1; by = λ session e. absurd (none-some session e); from = λ a e. inl (subst (IsOwnAnswer (op.Latch name (latch.Down round))) (same_some e) x.2) }
 
 again-session : (i : ℕ) (s : GroupState) (call : Invocation) (o : Op) (session : ℕ) → session_in o ≡ Some session → SettledSession i s call (Some session) → Again i s call o
 again-session i s call o session so h = record {

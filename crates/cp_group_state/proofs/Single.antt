@@ -8,6 +8,7 @@ use Rattle.cp_op_values.specs.declared.kind.Kind.{Kind}
 use Rattle.cp_op_values.specs.declared.kind.Kind.TheVariants as kind
 use Rattle.cp_base.specs.declared.identifier.ClientId.{ClientId}
 use Rattle.cp_base.specs.declared.identifier.Invocation.{Invocation}
+use Rattle.cp_base.proofs.Tests.{no_true}
 use Rattle.cp_answers.specs.declared.answer.Answer.{Answer}
 use Rattle.cp_answers.specs.declared.answer.Answer.TheVariants as answer
 use Rattle.cp_ops.specs.declared.op.Op.{Op}
@@ -25,7 +26,7 @@ use Rattle.cp_group_state.specs.Outcomes.{Reply, Answered, Waits}
 use Rattle.cp_group_state.specs.Protected.{session_in}
 use Rattle.cp_group_state.specs.Apply.{Applied, apply, apply_call, by_session, by_memory, perform, settle, remembered, join, is_elsewhere, supersede, outcome}
 use Rattle.cp_group_state.specs.Invariants.{Always, OneSession, CallsDiffer}
-use Rattle.cp_group_state.proofs.Keyed.{no_true, equal_is, find-put_same, find-put_other, number_key, same-client}
+use Rattle.cp_group_state.proofs.Keyed.{equal_is, find-put_same, find-put_other, number_key, same-client}
 use Rattle.cp_group_state.proofs.Walk.{cases, either, Closed, walk_supersede, walk_outcome, walk_on_latch, walk_close, walk_time_out, keep_session}
 use Rattle.cp_group_state.proofs.Grows.{is_of-same, beats-opened, forget-opened}
 use Rattle.cp_group_state.proofs.Latches.{same_call_itself}

@@ -1,7 +1,6 @@
 -- What one entry leaves.
 use Rattle.std.proofs.Common.{◌≡◌, ℕ, suc, ◌-◌, ◌^◌, ◌<◌, ◌≤◌, inr, Bool, true, false, not, List, [], ◌∷◌, Some, None, Option, refl, sym, ◌∙◌, subst, arith, if◌then◌else◌}
 use Rattle.std.specs.Prelude.{◌==◌, nat_lt, All}
-use Rattle.std.proofs.lemmas.Bool.Decides.{nat_tests}
 use Rattle.std.proofs.lemmas.List.Elements.{All-cons, All-head, All-tail}
 use Rattle.std.proofs.lemmas.Map.Views.{All-values-insert_entry}
 use Rattle.std.specs.List.{filter}
@@ -18,6 +17,7 @@ use Rattle.cp_ops.specs.declared.op.Op.{Op}
 use Rattle.cp_ops.specs.declared.entry.Entry.{Entry}
 use Rattle.cp_ops.specs.declared.entry.Entry.TheVariants as entry
 use Rattle.cp_base.specs.declared.identifier.GroupId.{GroupId}
+use Rattle.cp_base.proofs.Tests.{same_some, not_less}
 use Rattle.cp_group_state.specs.Rows.{find, without, name_cmp, holder_cmp, has_room, most}
 use Rattle.cp_group_state.specs.Waiters.{Waiter, Ended, stands}
 use Rattle.cp_group_state.specs.Memory.{MemoryRow, has_memory, remember, note, note_at, note_all}
@@ -33,7 +33,7 @@ use Rattle.cp_group_state.specs.Destroying.{drop_rows}
 use Rattle.cp_group_state.specs.Protected.{session_in}
 use Rattle.cp_group_state.proofs.Keyed.{equal_is, find-put_same, find-put_other, find-filter_kept, find-filter_gone, holder_key}
 use Rattle.cp_group_state.proofs.Walk.{cases, either, Closed, walk_supersede, walk_close, walk_time_out, walk_end_all, walk_on_latch, walk_outcome, keep_session}
-use Rattle.cp_group_state.proofs.Grows.{Grows, same_some, remember-reaches, grows_same, grows_on, grows-same_parts, grows_closed}
+use Rattle.cp_group_state.proofs.Grows.{Grows, remember-reaches, grows_same, grows_on, grows-same_parts, grows_closed}
 use Rattle.cp_group_state.proofs.Latches.{over-step}
 
 -- The row of a thread, if there is one, has at most this number; a change of the lists keeps that.
@@ -237,9 +237,6 @@ may-outcome i (Some session) call o s h = most-outcome i call o s (session, call
 
 pub grows-perform : (i : ℕ) (call : Invocation) (o : Op) (s : GroupState) → RoundsWithin (2 ^ 62 - 1) s.latches → MayTake (session_in o) call s → Grows i s (perform i call o s).state
 grows-perform i call o s few may = grows_on i s (outcome i call o s).change.state _ (grows-outcome i call o s few) (grows-settle i (session_in o) call _ (outcome i call o s).change (may-outcome i (session_in o) call o s may))
-
-pub not_less : (a b : ℕ) → nat_lt a b ≡ false → b ≤ a
-not_less a b h = grind (arith, nat_tests)
 
 -- where the memory row has no greater number
 pub fresh : (call : Invocation) (session : ℕ) (s : GroupState) (o : Option MemoryRow) → find holder_cmp s.memory (session, call.thread.0) ≡ o → ((row : MemoryRow) → o ≡ Some row → row.number ≤ call.number) → AtMost s.memory (session, call.thread.0) call.number

@@ -1,14 +1,16 @@
 -- Lock rows are held or free, no two waiters are of one call, no client has two sessions.
-use Rattle.std.proofs.Common.{◌≡◌, ℕ, ◌+◌, ◌-◌, ◌<◌, Bool, true, false, not, ◌&&◌, List, [], ◌∷◌, Some, refl, sym, arith, if◌then◌else◌}
+use Rattle.std.proofs.Common.{◌≡◌, ℕ, ◌+◌, ◌-◌, ◌<◌, Bool, true, false, not, List, [], ◌∷◌, Some, refl, arith, if◌then◌else◌}
 use Rattle.std.specs.Prelude.{◌==◌, nat_lt}
 use Rattle.std.proofs.lemmas.Bool.Decides.{nat_tests}
 use Rattle.std.proofs.lemmas.List.Elements.{All-nil, All-cons, All-head, All-tail}
 use Rattle.std.proofs.lemmas.Map.Views.{All-values-insert_entry}
 use Rattle.std.specs.Map.{values_of}
 use Rattle.std.specs.BTreeMap.{is_at}
+use Rattle.std.proofs.lemmas.Bool.{not-true}
 use Rattle.cp_op_values.specs.declared.kind.Kind.{Kind}
 use Rattle.cp_op_values.specs.declared.kind.Kind.TheVariants as kind
 use Rattle.cp_base.specs.declared.identifier.Invocation.{Invocation}
+use Rattle.cp_base.proofs.Tests.{first_true}
 use Rattle.cp_ops.specs.declared.op.Op.{Op}
 use Rattle.cp_ops.specs.declared.entry.Entry.{Entry}
 use Rattle.cp_ops.specs.declared.entry.Entry.TheVariants as entry
@@ -64,19 +66,11 @@ acquired-well i rows name who limit h = let row = lock_at rows name in
     (either (λ (r : Acquired). LocksWell r.rows) (is_held_by who row) _ _
     (either (λ (r : Acquired). LocksWell r.rows) (nat_lt row.holds (most_holds limit)) _ _ (put-well rows name (record row { holds = row.holds + 1 }) (positive-well (record row { holds = row.holds + 1 }) (omega arith)) h) h) h)
 
-and-first : (a b : Bool) → (a && b) ≡ true → a ≡ true
-and-first true b h = refl
-and-first false b h = h
-
-not-free : (a : Bool) → not a ≡ true → a ≡ false
-not-free true h = sym h
-not-free false h = refl
-
 released-well : (rows : List (List ℕ × LockRow)) (name : List ℕ) (who : Holder) → LocksWell rows → LocksWell (released_by rows name who).rows
 released-well rows name who h = let row = lock_at rows name in
     cases (λ (r : Release). LocksWell r.rows) (is_held_by who row) _ _
     (λ e. cases (λ (r : Release). LocksWell r.rows) (row.holds == 1) _ _ (λ x. put-well rows name free_lock free-well h)
-    (λ x. put-well rows name (record row { holds = row.holds - 1 }) (positive-well (record row { holds = row.holds - 1 }) (more-than-one row.holds (not-free (is_free row) (and-first (not (is_free row)) _ e)) x)) h))
+    (λ x. put-well rows name (record row { holds = row.holds - 1 }) (positive-well (record row { holds = row.holds - 1 }) (more-than-one row.holds (not-true (is_free row) (first_true (not (is_free row)) _ e)) x)) h))
     (λ e. h)
 
 drop-well : (name : List ℕ) (which : Kind) (s : GroupState) → LocksWell s.locks → LocksWell (drop_rows name which s).locks

@@ -1,10 +1,10 @@
 -- An answer in the memory was told before.
-use Rattle.std.proofs.Common.{is_some, ◌≡◌, ℕ, ◌-◌, ◌^◌, ◌<◌, ◌⊎◌, inl, inr, Bool, true, false, not, List, [], ◌∷◌, ◌++◌, Some, None, Option, refl, ap, sym, ◌∙◌, subst, arith, if◌then◌else◌, append_assoc}
+use Rattle.std.proofs.Common.{is_some, ◌≡◌, ℕ, ◌-◌, ◌^◌, ◌<◌, ◌⊎◌, inl, inr, Bool, true, false, not, List, [], ◌∷◌, ◌++◌, Some, None, Option, refl, ap, sym, ◌∙◌, subst, if◌then◌else◌, append_assoc}
 use Rattle.std.specs.Prelude.{◌==◌, nat_lt, All, Contains, length}
-use Rattle.std.proofs.lemmas.Bool.Decides.{nat_tests}
 use Rattle.std.proofs.lemmas.List.Elements.{Contains-append_cases, Contains-append_left, Contains-append_right, Contains-push, Contains-push_cases, All-head, All-tail}
 use Rattle.std.specs.Ordering.{nat_cmp}
 use Rattle.std.specs.BTreeMap.{is_at}
+use Rattle.std.proofs.lemmas.Option.{none-some}
 use Rattle.cp_op_values.specs.declared.kind.Kind.{Kind}
 use Rattle.cp_op_values.specs.declared.kind.Kind.TheVariants as kind
 use Rattle.cp_base.specs.declared.identifier.Invocation.{Invocation}
@@ -25,6 +25,7 @@ use Rattle.cp_ops.specs.declared.op.Op.TheVariants as op
 use Rattle.cp_ops.specs.declared.entry.Entry.{Entry}
 use Rattle.cp_ops.specs.declared.entry.Entry.TheVariants as entry
 use Rattle.cp_base.specs.declared.identifier.ClientId.{ClientId}
+use Rattle.cp_base.proofs.Tests.{same_some, same_number}
 use Rattle.cp_group_state.specs.Rows.{find, holder_cmp, object_cmp, most, has_room}
 use Rattle.cp_group_state.specs.Waiters.{Waiter, Ended, stands}
 use Rattle.cp_group_state.specs.Memory.{MemoryRow, remember, note, note_at, note_all, has_memory}
@@ -48,7 +49,7 @@ use Rattle.cp_group_state.specs.Destroying.{names_gone, object_of, add_gone, dro
 use Rattle.cp_group_state.specs.History.{IsBelow, IsOrderlyAt}
 use Rattle.cp_group_state.proofs.Keyed.{equal_is, find-put_same, find-put_other, find-filter_kept, find-filter_gone, holder_key, same-client}
 use Rattle.cp_group_state.proofs.Walk.{All-closing, cases, either, Closed, walk_on_latch, walk_supersede, walk_outcome, walk_close, walk_time_out, walk_end_all}
-use Rattle.cp_group_state.proofs.Grows.{Grows, same_some, opens-opened, beats-opened, forget-opened}
+use Rattle.cp_group_state.proofs.Grows.{Grows, opens-opened, beats-opened, forget-opened}
 use Rattle.cp_group_state.proofs.Steps.{grows-outcome, RoundsWithin, within-supersede}
 use Rattle.cp_group_state.proofs.Established.{fewer_closed}
 
@@ -72,9 +73,6 @@ told_more i past more s f h = record { waiters = h.waiters; memory = λ session 
 memory_more : (i : ℕ) (past : List (Invocation × Answer)) (added : Invocation × Answer) (sessions : List (ℕ × SessionRow)) (rows : List ((ℕ × ℕ) × MemoryRow)) → MemoryTold i past sessions rows → MemoryTold i (past ++ added ∷ []) sessions rows
 memory_more i past added sessions rows h session thread row there = let x = h session thread row there in (x.0, λ a is client o. Contains-append_left past (added ∷ []) _ (x.1 a is client o))
 
-test_same : (a b : ℕ) → (a == b) ≡ true → a ≡ b
-test_same a b h = grind (arith, nat_tests)
-
 note_at-told : (i : ℕ) (past : List (Invocation × Answer)) (sessions : List (ℕ × SessionRow)) (rows : List ((ℕ × ℕ) × MemoryRow)) (e : Ended) (o : Option MemoryRow) → find holder_cmp rows (e.waiter.session, e.waiter.call.thread.0) ≡ o
     → ((client : ClientId) → is_open_for sessions e.waiter.session client ≡ true → client ≡ e.waiter.call.client) → MemoryTold i past sessions rows → MemoryTold i (past ++ (e.waiter.call, e.answer) ∷ []) sessions (note_at rows e o)
 note_at-told i past sessions rows e None is own h = memory_more i past _ sessions rows h
@@ -93,7 +91,7 @@ note_at-told i past sessions rows e (Some old) is own h = cases (MemoryTold i (p
           rw (← s_is) old_told.0,
           λ a is client o. let same : client ≡ e.waiter.call.client = own client (subst (λ y. is_open_for sessions y client ≡ true) (sym s_is) o) in
               let a_is : e.answer ≡ a = same_some (ap (λ (r : MemoryRow). r.answer) row_is ∙ is) in
-              let n_is : e.waiter.call.number ≡ row.number = sym (test_same old.number e.waiter.call.number n) ∙ ap (λ (r : MemoryRow). r.number) row_is in
+              let n_is : e.waiter.call.number ≡ row.number = sym (same_number old.number e.waiter.call.number n) ∙ ap (λ (r : MemoryRow). r.number) row_is in
               let whole : (e.waiter.call, e.answer) ≡ (record { client = client; thread = record { 0 = thread }; number = row.number }, a) = λ j. (record { client = sym same j; thread = record { 0 = t_is j }; number = n_is j }, a_is j) in
               subst (λ y. Contains (past ++ (e.waiter.call, e.answer) ∷ []) y) whole (Contains-push past (e.waiter.call, e.answer)),
         )
@@ -324,11 +322,8 @@ answer-told i past so call a c own h = told-remembered i (past ++ (call, a) ∷ 
     (λ b e. subst (λ y. Contains (past ++ (call, a) ∷ told c.ended) (call, y)) (same_some e) (Contains-here past (call, a) (told c.ended)))
     (told_more i (past ++ told c.ended) (past ++ (call, a) ∷ told c.ended) c.state (λ x y. Contains-among past (call, a) (told c.ended) x y) h)
 
-none_some : {X : Type 0} (x : X) → None ≡ Some x → ⊥
-none_some x e = cc
-
 own-waiter : (i : ℕ) (so : Option ℕ) (call : Invocation) (w : Waiter) (s : GroupState) → IsOwnSession i s.sessions call so → IsOwnWait call so (Waits w) → IsOwnWaiter i s.sessions w
-own-waiter i None call w s own x m = absurd (none_some w.session (memory-session w None x.1 m))
+own-waiter i None call w s own x m = absurd (none-some w.session (memory-session w None x.1 m))
 own-waiter i (Some session) call w s own x m = let same : session ≡ w.session = same_some (memory-session w (Some session) x.1 m) in
     (rw (← same) own.0, λ client o. own.1 client (subst (λ y. is_open_for s.sessions y client ≡ true) (sym same) o) ∙ ap (λ (c : Invocation). c.client) (sym x.0))
 
@@ -336,7 +331,7 @@ wait-told : (i : ℕ) (past : List (Invocation × Answer)) (so : Option ℕ) (ca
     → Told i past s → Told i (past ++ (settle_wait so call w s).answers) (settle_wait so call w s).state
 wait-told i past so call w s own x h = either (λ (r : Applied). Told i (past ++ r.answers) r.state) (stands call s.waiters) _ _ (told_end i past s h)
     (either (λ (r : Applied). Told i (past ++ r.answers) r.state) (nat_lt (length s.waiters) most) _ _
-    (told_end i past (remembered so call None (join w s)) (told-remembered i past so call None (join w s) (own-join so own) (λ a e. absurd (none_some a e)) (told-join i past w s (own-waiter i so call w s own x) h)))
+    (told_end i past (remembered so call None (join w s)) (told-remembered i past so call None (join w s) (own-join so own) (λ a e. absurd (none-some a e)) (told-join i past w s (own-waiter i so call w s own x) h)))
     (answer-told i past so call (answer.TableFull most) (stay s) own (told_end i past s h)))
   where
     own-join : (so : Option ℕ) → IsOwnSession i s.sessions call so → IsOwnSession i (join w s).sessions call so

@@ -5,6 +5,7 @@ use Rattle.std.proofs.lemmas.Bool.Decides.{nat_tests}
 use Rattle.std.proofs.lemmas.List.Elements.{All-nil, All-cons, All-head, All-tail, All-filter, All-contains, All-contains_itself, filter_passes, Contains-push_cases, Contains-append_cases}
 use Rattle.std.specs.List.{list_any, filter}
 use Rattle.std.specs.BTreeMap.{is_at}
+use Rattle.std.proofs.lemmas.Bool.{not-true}
 use Rattle.cp_op_values.specs.declared.kind.Kind.{Kind}
 use Rattle.cp_op_values.specs.declared.kind.Kind.TheVariants as kind
 use Rattle.cp_base.specs.declared.identifier.Invocation.{Invocation}
@@ -14,6 +15,7 @@ use Rattle.cp_ops.specs.declared.op.Op.{Op}
 use Rattle.cp_ops.specs.declared.entry.Entry.{Entry}
 use Rattle.cp_ops.specs.declared.entry.Entry.TheVariants as entry
 use Rattle.cp_base.specs.declared.identifier.ClientId.{ClientId}
+use Rattle.cp_base.proofs.Tests.{same_some, no_true, same_number, number_itself}
 use Rattle.cp_group_state.specs.Rows.{find, holder_cmp, most}
 use Rattle.cp_group_state.specs.Waiters.{Waiter, Ended, stands, same_call, still_waiting, ending, answered_by}
 use Rattle.cp_group_state.specs.Memory.{MemoryRow, remember, note, note_at, note_all, has_memory}
@@ -27,9 +29,9 @@ use Rattle.cp_group_state.specs.Outcomes.{Reply, Answered, Waits}
 use Rattle.cp_group_state.specs.Serving.{serve}
 use Rattle.cp_group_state.specs.Protected.{session_in}
 use Rattle.cp_group_state.specs.Destroying.{add_gone, drop_rows}
-use Rattle.cp_group_state.proofs.Keyed.{client-itself, same-thread, equal_is, no_true, find-put_same, find-put_other, find-filter_kept, holder_key, is_at_apart}
+use Rattle.cp_group_state.proofs.Keyed.{client-itself, same-thread, equal_is, find-put_same, find-put_other, find-filter_kept, holder_key, is_at_apart}
 use Rattle.cp_group_state.proofs.Walk.{All-closing, cases, either, Closed, walk_supersede, walk_outcome, walk_on_latch, walk_close, walk_time_out, walk_end_all, walk_each, walk_serve}
-use Rattle.cp_group_state.proofs.Grows.{Grows, same_some, opens-opened, beats-opened, forget-opened}
+use Rattle.cp_group_state.proofs.Grows.{Grows, opens-opened, beats-opened, forget-opened}
 use Rattle.cp_group_state.proofs.Steps.{RoundsWithin, grows-outcome, within-supersede}
 use Rattle.cp_group_state.proofs.Established.{fewer_closed}
 use Rattle.cp_group_state.proofs.Told.{IsOwnWaiter, IsOwnWait, memory_of, memory-session, own-outcome}
@@ -42,12 +44,6 @@ Waiting s = (w : Waiter) → Contains s.waiters w → has_memory w.kind ≡ true
 
 abbrev pub Owns : ℕ → GroupState → Type 0
 Owns i s = (w : Waiter) → Contains s.waiters w → IsOwnWaiter i s.sessions w
-
-test_same : (a b : ℕ) → (a == b) ≡ true → a ≡ b
-test_same a b h = grind (arith, nat_tests)
-
-test_itself : (a : ℕ) → (a == a) ≡ true
-test_itself a = grind (arith, nat_tests)
 
 -- this ended waiter isn't the call that waits
 abbrev pub IsApart : Ended → Waiter → Type 0
@@ -63,7 +59,7 @@ note_at-waits rows e (Some old) w is apart there = cases (λ (m : List ((ℕ × 
         → find holder_cmp (remember rows e.waiter.session e.waiter.call.thread old.number (Some e.answer)) (w.session, w.call.thread.0) ≡ Some (waiting_row w)
     at n true x = let key : (w.session, w.call.thread.0) ≡ (e.waiter.session, e.waiter.call.thread.0) = holder_key.same (w.session, w.call.thread.0) (e.waiter.session, e.waiter.call.thread.0) (equal_is _ x) in
         let old_is : old ≡ waiting_row w = same_some (sym is ∙ ap (λ (q : ℕ × ℕ). find holder_cmp rows q) (sym key) ∙ there) in
-        absurd (apart (sym (ap (λ (q : ℕ × ℕ). q.0) key)) (same-thread e.waiter.call.thread w.call.thread (sym (ap (λ (q : ℕ × ℕ). q.1) key))) (sym (test_same old.number e.waiter.call.number n) ∙ ap (λ (r : MemoryRow). r.number) old_is))
+        absurd (apart (sym (ap (λ (q : ℕ × ℕ). q.0) key)) (same-thread e.waiter.call.thread w.call.thread (sym (ap (λ (q : ℕ × ℕ). q.1) key))) (sym (same_number old.number e.waiter.call.number n) ∙ ap (λ (r : MemoryRow). r.number) old_is))
     at n false x = find-put_other holder_cmp holder_key rows (e.waiter.session, e.waiter.call.thread.0) (w.session, w.call.thread.0) (record { number = old.number; answer = Some e.answer }) x ∙ there
 
 note_all-waits : (rows : List ((ℕ × ℕ) × MemoryRow)) (es : List Ended) (w : Waiter) → All (λ (e : Ended). has_memory e.waiter.kind ≡ true → IsApart e w) es
@@ -81,17 +77,13 @@ any-none test (x ∷ xs) h = at (test x) refl h (any-none test xs)
     at true e h rest = absurd (no_true h)
     at false e h rest = All-cons (λ x. test x ≡ false) x xs e (rest h)
 
-not-true : (b : Bool) → not b ≡ true → b ≡ false
-not-true true h = sym h
-not-true false h = refl
-
 -- one that still waits is none of those that ended
 pub still-apart : (ended : List Ended) (ws : List Waiter) (w : Waiter) → Contains (still_waiting ended ws) w → All (λ (e : Ended). same_call e.waiter.call w.call ≡ false) ended
 still-apart ended ws w there = any-none (λ (e : Ended). same_call e.waiter.call w.call) ended
     (not-true _ (All-contains (λ (w : Waiter). not (list_any (λ (e : Ended). same_call e.waiter.call w.call) ended) ≡ true) (still_waiting ended ws) w (filter_passes (λ (w : Waiter). not (list_any (λ (e : Ended). same_call e.waiter.call w.call) ended)) ws) there))
 
 call-test : (a b : Invocation) → a.client ≡ b.client → a.thread ≡ b.thread → a.number ≡ b.number → same_call a b ≡ true
-call-test a b c t n = rw (c, t, n, client-itself b.client, test_itself b.thread.0, test_itself b.number)
+call-test a b c t n = rw (c, t, n, client-itself b.client, number_itself b.thread.0, number_itself b.number)
 
 apart-of : (i : ℕ) (sessions : List (ℕ × SessionRow)) (w : Waiter) → is_open_for sessions w.session w.call.client ≡ true → (ended : List Ended) → All (λ (e : Ended). IsOwnWaiter i sessions e.waiter) ended → All (λ (e : Ended). same_call e.waiter.call w.call ≡ false) ended
     → All (λ (e : Ended). has_memory e.waiter.kind ≡ true → IsApart e w) ended
@@ -194,7 +186,7 @@ number-less : (n m : ℕ) → n < m → nat_lt n m ≡ true
 number-less n m h = grind (arith, nat_tests)
 
 older-test : (call : Invocation) (w : Waiter) → call.client ≡ w.call.client → call.thread ≡ w.call.thread → w.call.number < call.number → is_older call w ≡ true
-older-test call w c t n = rw (c, t, client-itself w.call.client, test_itself w.call.thread.0, number-less w.call.number call.number n)
+older-test call w c t n = rw (c, t, client-itself w.call.client, number_itself w.call.thread.0, number-less w.call.number call.number n)
 
 apart-thread : (i : ℕ) (session : ℕ) (call : Invocation) (t : GroupState) → Owns i t → Waiting t → NoOlder call t.waiters → is_open_for t.sessions session call.client ≡ true
     → ((row : MemoryRow) → find holder_cmp t.memory (session, call.thread.0) ≡ Some row → row.number < call.number) → ApartFrom (Some session) call t

@@ -1,7 +1,7 @@
 -- What a rule leaves for the reads to be settled.
 use Rattle.std.proofs.Common.{◌||◌, ◌&&◌, ◌==◌, ◌≡◌, ℕ, suc, ◌+◌, ◌-◌, not, Bool, true, false, List, [], ◌∷◌, ◌++◌, length, drop, refl, sym, ap, subst, ◌∙◌, Option, Some, None, is_none, nat_lt, nat_le, if◌then◌else◌, true≢false}
 use Rattle.std.specs.Option.{option_map}
-use Rattle.std.proofs.lemmas.Bool.{and_parts}
+use Rattle.std.proofs.lemmas.Bool.{and_parts, not-false}
 use Rattle.cp_base.specs.declared.identifier.GroupId.{GroupId}
 use Rattle.cp_base.specs.declared.identifier.Invocation.{Invocation}
 use Rattle.cp_answers.specs.declared.refusal.Refusal.{Refusal}
@@ -36,7 +36,7 @@ use Rattle.cp_rules.specs.Confirming.{with_round, waits, begins_round, on_confir
 use Rattle.cp_rules.specs.Ticks.{expires, is_proposed, confirms_again, beats, on_tick}
 use Rattle.cp_rules.specs.Steps.{on_message, rule}
 use Rattle.cp_rules_facts.specs.Soundness.{IsSound, IsFair, IsSnapshotDue}
-use Rattle.cp_rules_facts.proofs.Basics.{either, from_not, candidate_is}
+use Rattle.cp_rules_facts.proofs.Basics.{either, candidate_is}
 use Rattle.cp_rules_facts.proofs.Ticks.{wrote}
 use Rattle.cp_raft_state.proofs.OneMore.{more, config_more}
 use Rattle.cp_raft_state.proofs.OwnSnapshots.{IsOwn, config_kept}
@@ -259,7 +259,7 @@ module _ (group : GroupId) (me : ℕ) (p : PersistentState) (v : VolatileState) 
       (λ h. refused_left (NotLeader v.leader))
       (λ h. either Left (nat_le most_looks (length v.reads.looks)) full s
       (λ k. refused_left (Overloaded most_looks))
-      (λ k. record { told = λ l. refl; looks = λ l. absurd (true≢false (sym (from_not (is_leader v.role) h) ∙ l)) }))
+      (λ k. record { told = λ l. refl; looks = λ l. absurd (true≢false (sym (not-false (is_leader v.role) h) ∙ l)) }))
 
   -- ---- requests
 

@@ -3,6 +3,7 @@ use Rattle.std.proofs.Common.{◌≡◌, ℕ, zero, suc, ◌+◌, ◌-◌, ◌<�
 use Rattle.std.proofs.lemmas.Bool.Decides.{nat_tests}
 use Rattle.std.specs.Prelude.{Option, Some, None, slice_get, unwrap_or, nat_lt}
 use Rattle.std.specs.Option.{option_map}
+use Rattle.cp_base.proofs.Tests.{number_itself}
 use Rattle.cp_parts.specs.Heads.{head_of}
 use Rattle.cp_parts.specs.declared.log_entry.LogEntry.{LogEntry}
 use Rattle.cp_parts.specs.declared.snapshot_head.SnapshotHead.{SnapshotHead}
@@ -43,12 +44,9 @@ term_there p index e from is =
     let apart : (index == p.base) ≡ false = grind (arith, nat_tests) in
     rw (apart, is) refl
 
-same_term : (n : ℕ) → (n == n) ≡ true
-same_term n = grind (arith, nat_tests)
-
 -- all that stood behind the index stays
 suffix_stays : (p : PersistentState) (index : ℕ) (e : LogEntry) → entry_at p index ≡ Some e → suffix_behind index e.term p ≡ drop (index - p.base) p.log
-suffix_stays p index e is = rw (is, same_term e.term) refl
+suffix_stays p index e is = rw (is, number_itself e.term) refl
 
 pub is_behind : (p : PersistentState) (index : ℕ) (bytes : List ℕ) → IsOwn p index bytes → kept p index bytes ≡ behind p index bytes
 is_behind p index bytes own =

@@ -7,17 +7,12 @@ use Rattle.std.specs.Ordering.{is_gt, nat_cmp}
 use Rattle.std.specs.Cmp.{tied_itself}
 use Rattle.std.proofs.lemmas.Cmp.{nat_cmp_total}
 use Rattle.std.proofs.lemmas.Bool.Decides.{nat_tests}
+use Rattle.cp_base.proofs.Tests.{same_number, number_itself}
 use Rattle.cp_group_state.specs.declared.rows.MemoryRow.{MemoryRow}
 use Rattle.cp_group_state.specs.Rows.{find, without, holder_cmp}
 use Rattle.cp_group_state.specs.Sessions.{is_among}
 use Rattle.cp_remembered.specs.Forgetting.{Memories, of_others, forgotten, IsFrom, IsNoneFrom, IsFirstFrom}
 use Rattle.cp_group_state.proofs.Keyed.{holder_key, equal_is}
-
-same_number : (a b : ℕ) → (a == b) ≡ true → a ≡ b
-same_number a b h = grind (arith, nat_tests)
-
-itself : (a : ℕ) → (a == a) ≡ true
-itself a = grind (arith, nat_tests)
 
 some_none : (row : MemoryRow) → Some row ≡ None → ⊥
 some_none row e = cc
@@ -45,7 +40,7 @@ one_less [] session thread = refl
 one_less (e ∷ es) session thread = by (one_less es session thread) (is_at (holder_cmp (session, thread)) e.0) refl where
   gone : is_at (holder_cmp (session, thread)) e.0 ≡ true → of_others session es ≡ of_others session (e ∷ es)
   gone h = let same : (session, thread) ≡ e.0 = holder_key.same (session, thread) e.0 (equal_is _ h) in
-      let its : (session == e.0.0) ≡ true = ap (λ (k : ℕ × ℕ). session == k.0) (sym same) ∙ itself session in
+      let its : (session == e.0.0) ≡ true = ap (λ (k : ℕ × ℕ). session == k.0) (sym same) ∙ number_itself session in
       rw its refl
 
   by : of_others session (without holder_cmp es (session, thread)) ≡ of_others session es

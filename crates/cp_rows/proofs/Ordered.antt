@@ -10,6 +10,7 @@ use Rattle.std.proofs.lemmas.List.Elements.{All-head, All-tail}
 use Rattle.std.specs.List.{AllByRecursion}
 use Rattle.std.specs.Map.{keys_of, set_value}
 use Rattle.std.specs.List.Sorted.{IsStrictlySortedBy}
+use Rattle.cp_base.proofs.Tests.{no_true, first_true}
 use Rattle.cp_group_state.specs.Rows.{find, put}
 use Rattle.cp_group_state.specs.Invariants.{IsRising}
 use Rattle.cp_rows.specs.Behind.{is_above}
@@ -18,17 +19,10 @@ pub some_of : {X : Type 0} (o : Option X) → IsSome o → (x : X) × (o ≡ Som
 some_of None h = cc
 some_of (Some x) h = (x, refl)
 
-no_true : true ≡ false → ⊥
-no_true e = cc
-
 is_less : (o : Ordering) → is_lt o ≡ true → o ≡ Less
 is_less Less h = refl
 is_less Equal h = cc
 is_less Greater h = cc
-
-and_first : (a b : Bool) → (a && b) ≡ true → a ≡ true
-and_first true b h = refl
-and_first false b h = h
 
 and_second : (a b : Bool) → (a && b) ≡ true → b ≡ true
 and_second true b h = h
@@ -75,7 +69,7 @@ module _ {K X : Type 0} (cmp : K → K → Ordering) (total : IsTotalOrder cmp) 
   pub put_last : (rows : List (K × X)) (k : K) (x : X) → is_above cmp rows k ≡ true → put cmp rows k x ≡ rows ++ (k, x) ∷ []
   put_last [] k x h = refl
   put_last (e ∷ es) k x h =
-      let far : cmp k e.0 ≡ Greater = turned cmp total k e.0 (is_less (cmp e.0 k) (and_first (is_lt (cmp e.0 k)) (is_above cmp es k) h)) in
+      let far : cmp k e.0 ≡ Greater = turned cmp total k e.0 (is_less (cmp e.0 k) (first_true (is_lt (cmp e.0 k)) (is_above cmp es k) h)) in
       rw far (ap (λ (r : List (K × X)). e ∷ r) (put_last es k x (and_second (is_lt (cmp e.0 k)) (is_above cmp es k) h)))
 
   above_all : (a b : K) (rows : List (K × X)) → cmp a b ≡ Less → AllByRecursion (λ y. cmp b y ≡ Less) (keys_of rows) → AllByRecursion (λ y. cmp a y ≡ Less) (keys_of rows)

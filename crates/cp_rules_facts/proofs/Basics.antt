@@ -1,5 +1,5 @@
 -- Small lemmas: ifs, roles, places of lists.
-use Rattle.std.proofs.Common.{◌≡◌, ◌≢◌, ℕ, zero, suc, ◌⊎◌, inl, inr, ⊎_elim, not, Bool, true, false, List, [], ◌∷◌, map, refl, ap, sym, ◌∙◌, Option, Some, None, is_none, All, true≢false, if◌then◌else◌, slice_set, slice_index_or}
+use Rattle.std.proofs.Common.{◌≡◌, ◌≢◌, ℕ, zero, suc, ◌⊎◌, inl, inr, ⊎_elim, Bool, true, false, List, [], ◌∷◌, map, refl, ap, sym, ◌∙◌, Option, Some, None, is_none, All, true≢false, if◌then◌else◌, slice_set, slice_index_or}
 use Rattle.std.proofs.lemmas.Bool.{cases_Bool}
 use Rattle.std.proofs.lemmas.List.Elements.{All-nil, All-cons, All-head, All-tail}
 use Rattle.cp_safety.specs.Tracking as tracking
@@ -15,14 +15,6 @@ either P c a b first second = ⊎_elim
     (λ (e : c ≡ true). rw e (first e))
     (λ (e : c ≡ false). rw e (second e))
     (cases_Bool c)
-
-pub from_not : (b : Bool) → not b ≡ false → b ≡ true
-from_not true h = refl
-from_not false h = absurd (true≢false h)
-
-pub from_not_true : (b : Bool) → not b ≡ true → b ≡ false
-from_not_true false h = refl
-from_not_true true h = absurd (true≢false (sym h))
 
 pub none_is : {A : Type 0} (x : Option A) → is_none x ≡ true → x ≡ None
 none_is None h = refl

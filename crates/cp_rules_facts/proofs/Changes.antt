@@ -1,6 +1,6 @@
 -- Entries that a leader is asked for, and changes of members.
 use Rattle.std.proofs.Common.{◌&&◌, ◌==◌, ◌≡◌, ℕ, zero, suc, ◌+◌, ◌<◌, ◌≤◌, ◌⊎◌, inl, inr, ⊎_elim, not, Bool, true, false, List, [], ◌∷◌, length, refl, ap, sym, ◌∙◌, arith, subst, Option, Some, None, option_map, slice_get, nat_lt, le_refl, le_of_eq, true≢false, ltb-false, if◌then◌else◌}
-use Rattle.std.proofs.lemmas.Bool.{cases_Bool, eqb-true}
+use Rattle.std.proofs.lemmas.Bool.{cases_Bool, eqb-true, not-false}
 use Rattle.std.proofs.lemmas.Option.{same_Some}
 use Rattle.cp_base.specs.declared.identifier.Invocation.{Invocation}
 use Rattle.cp_answers.specs.declared.refusal.Refusal.{Refusal}
@@ -27,7 +27,7 @@ use Rattle.cp_log_rules.proofs.InForce.{config_index}
 use Rattle.cp_rules.proofs.SpellingLaws.{entry_members, config_members}
 use Rattle.cp_rules_facts.specs.Seen.{seen_role, tracked_member}
 use Rattle.cp_rules_facts.specs.Soundness.{IsPlaced}
-use Rattle.cp_rules_facts.proofs.Basics.{either, from_not, leader_is, set_index}
+use Rattle.cp_rules_facts.proofs.Basics.{either, leader_is, set_index}
 use Rattle.cp_rules_facts.proofs.Knowing.{knows_at, members_are}
 use Rattle.cp_rules_facts.proofs.Turns.{Turn, here, core, Good}
 use Rattle.cp_rules_facts.proofs.Quiet.{silent}
@@ -176,7 +176,7 @@ module _ (t : Turn) (change : Change) (plan : ℕ) (call : Option Invocation) (l
       let h5 = if_none (not add && not inside) NotThere after_there h4.1 in
       record {
         settled = ltb-false t.v.commit index h2.0;
-        own_term = eqb-true (known_term t.p t.v.commit) t.p.term (from_not (known_term t.p t.v.commit == t.p.term) h3.0);
+        own_term = eqb-true (known_term t.p t.v.commit) t.p.term (not-false (known_term t.p t.v.commit == t.p.term) h3.0);
         kind = kind_of add inside h5.0;
       }
     where

@@ -1,6 +1,6 @@
 -- The replies to an Append and to a chunk, at a leader.
 use Rattle.std.proofs.Common.{◌&&◌, ◌==◌, ◌≡◌, ◌≢◌, ℕ, ◌≤◌, ◌⊎◌, inl, inr, ⊎_elim, not, Bool, true, false, List, [], ◌∷◌, length, refl, ap, sym, ◌∙◌, arith, subst, Some, None, All, nat_lt, nat_le, le_refl, le_of_eq, if◌then◌else◌}
-use Rattle.std.proofs.lemmas.Bool.{leb-true, eqb-true, and_parts}
+use Rattle.std.proofs.lemmas.Bool.{leb-true, eqb-true, and_parts, not-false}
 use Rattle.std.proofs.lemmas.List.Elements.{All-nil}
 use Rattle.cp_agreement_facts.specs.Clusters as cluster
 use Rattle.cp_safety.specs.Tracking.{MatchedUpto, LeaderCommitsByMatch, SendsTruly}
@@ -17,7 +17,7 @@ use Rattle.cp_rules.specs.AppendReplies.{is_answered, matched_to, matches, next_
 use Rattle.cp_rules.specs.Snapshots.{sends_more, on_snapshot_reply}
 use Rattle.cp_rules_facts.specs.Seen.{seen_role}
 use Rattle.cp_rules_facts.specs.Soundness.{IsPlaced}
-use Rattle.cp_rules_facts.proofs.Basics.{either, from_not, leader_is, seen_candidate, leader_or_candidate, follower_or_candidate, set_place, set_index, one}
+use Rattle.cp_rules_facts.proofs.Basics.{either, leader_is, seen_candidate, leader_or_candidate, follower_or_candidate, set_place, set_index, one}
 use Rattle.cp_rules_facts.proofs.Turns.{Turn, got, here, core, Truth, Left, Good}
 use Rattle.cp_rules_facts.proofs.Quiet.{silent}
 use Rattle.cp_rules_facts.proofs.Votes.{adopts_or}
@@ -165,7 +165,7 @@ answered : (t : Turn) (from term : ℕ) (s : LocalStep) → (t.v.role ≡ Leader
 answered t from term s goes = adopts_or t term (if not (is_answered t.p t.v from term) then does None t.v [] else s)
     (either (Good t) (not (is_answered t.p t.v from term)) (does None t.v []) s
     (λ n. silent t)
-    (λ n. let a = and_parts (is_leader t.v.role) ((term == t.p.term) && is_member from (members t.p)) (from_not (is_answered t.p t.v from term) n) in
+    (λ n. let a = and_parts (is_leader t.v.role) ((term == t.p.term) && is_member from (members t.p)) (not-false (is_answered t.p t.v from term) n) in
     let b = and_parts (term == t.p.term) (is_member from (members t.p)) a.1 in
     goes (leader_is t.v.role a.0) (eqb-true term t.p.term b.0)))
 

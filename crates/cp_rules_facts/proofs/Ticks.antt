@@ -1,6 +1,6 @@
 -- A tick, and what comes after each rule: a snapshot of the member's own, a beat, and the reads that are settled.
 use Rattle.std.proofs.Common.{◌||◌, ◌&&◌, ◌==◌, ◌≡◌, ℕ, suc, ◌-◌, ◌<◌, ◌⊎◌, inl, inr, ⊎_elim, not, Bool, true, false, List, [], ◌∷◌, ◌++◌, length, take, drop, map, filter, refl, ap, sym, ◌∙◌, arith, subst, Option, Some, None, is_none, All, nat_lt, nat_le, le_refl, true≢false, if◌then◌else◌}
-use Rattle.std.proofs.lemmas.Bool.{eqb-true, and_parts}
+use Rattle.std.proofs.lemmas.Bool.{eqb-true, and_parts, not-false}
 use Rattle.std.proofs.lemmas.List.{length-drop}
 use Rattle.std.proofs.lemmas.List.Elements.{All-nil, All-cons, All-head, All-tail}
 use Rattle.cp_agreement_facts.specs.Entries.{members_in}
@@ -25,7 +25,7 @@ use Rattle.cp_rules.specs.Confirming.{confirms, is_ready, settles}
 use Rattle.cp_rules.specs.Ticks.{expires, is_proposed, confirms_again, beats, on_tick}
 use Rattle.cp_rules_facts.specs.Seen.{seen_role, tracked_member}
 use Rattle.cp_rules_facts.specs.Soundness.{IsPlaced, ReadsBack, IsSnapshotDue}
-use Rattle.cp_rules_facts.proofs.Basics.{either, from_not, leader_is, mapped_place, all_mapped}
+use Rattle.cp_rules_facts.proofs.Basics.{either, leader_is, mapped_place, all_mapped}
 use Rattle.cp_rules_facts.proofs.Knowing.{entry_has, knows_has, knows_at, configured_members, members_are, quorum_is}
 use Rattle.cp_rules_facts.proofs.Turns.{Turn, here, core, Truth, Left, Good}
 use Rattle.cp_rules_facts.proofs.Quiet.{Calm, rests, quiet_low, stays}
@@ -230,7 +230,7 @@ module _ (t : Turn) (clock : ℕ) (may_write : Bool) (machine : Option (List ℕ
       either Ends (not may) (does None ticked []) (if length (members t.p) == 1 then (if may_write then taking else does None ticked []) else stands t.me t.p ticked)
       (λ h. nothing_due)
       (λ h. either Ends (length (members t.p) == 1) (if may_write then taking else does None ticked []) (stands t.me t.p ticked)
-      (λ one. either Ends may_write taking (does None ticked []) (λ w. alone_good (eqb-true (length (members t.p)) 1 one) (from_not may h)) (λ w. nothing_due))
+      (λ one. either Ends may_write taking (does None ticked []) (λ w. alone_good (eqb-true (length (members t.p)) 1 one) (not-false may h)) (λ w. nothing_due))
       (λ more. stands_good))
 
   pub tick_good : (expiry : Option (List ℕ)) → ((entry : List ℕ) → expiry ≡ Some entry → members_in entry ≡ None) → Good t (on_tick t.me t.p t.v clock may_write expiry machine)

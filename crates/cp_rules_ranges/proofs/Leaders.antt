@@ -1,7 +1,7 @@
 -- What a leader creates, and its answers to replies.
 use Rattle.std.proofs.Common.{◌&&◌, ◌==◌, ◌≡◌, ℕ, suc, ◌+◌, ◌-◌, ◌<◌, ◌≤◌, ⊎_elim, not, Bool, true, false, List, [], ◌∷◌, ◌++◌, length, take, refl, sym, ap, arith, ◌∙◌, Option, Some, None, nat_lt, nat_le, if◌then◌else◌, le_refl, length-append, length-take}
 use Rattle.std.specs.List.{AllByRecursion}
-use Rattle.std.proofs.lemmas.Bool.{and_parts, leb-true, leb-false}
+use Rattle.std.proofs.lemmas.Bool.{and_parts, leb-true, leb-false, not-false}
 use Rattle.cp_base.specs.declared.identifier.Invocation.{Invocation}
 use Rattle.cp_answers.specs.declared.refusal.Refusal.{Refusal}
 use Rattle.cp_answers.specs.declared.refusal.Refusal.TheVariants.{NotLeader, IndexEnd, Overloaded}
@@ -35,7 +35,7 @@ use Rattle.cp_rules.specs.Changes.{refuses_change, changed, with_member, without
 use Rattle.cp_rules.specs.AppendReplies.{is_answered, matched_to, matches, next_tried, falls_back, on_append_reply}
 use Rattle.cp_rules.specs.Snapshots.{sends_more, on_snapshot_reply}
 use Rattle.cp_rules_facts.specs.Soundness.{IsSound}
-use Rattle.cp_rules_facts.proofs.Basics.{either, from_not, leader_is, candidate_is}
+use Rattle.cp_rules_facts.proofs.Basics.{either, leader_is, candidate_is}
 use Rattle.cp_rules_facts.proofs.Commits.{committing}
 use Rattle.cp_rules_ranges.specs.Ranges.{IsMember, EntryIsInRange, StoredIsInRange, KeptIsInRange, IsInRange, SentIsInRange, BallotIsInRange, most_entry}
 use Rattle.cp_rules_ranges.proofs.Members.{after_fits, few_members, one_more, no_more}
@@ -244,7 +244,7 @@ answered : (h : Here) (from term : ℕ) (s : LocalStep) → term ≤ most_index 
 answered h from term s most goes = adopts_or h term (if not (is_answered h.p h.v from term) then does None h.v [] else s) most
     (either (Goes h) (not (is_answered h.p h.v from term)) (does None h.v []) s
     (λ n. silent h)
-    (λ n. goes (leader_is h.v.role (and_parts (is_leader h.v.role) ((term == h.p.term) && is_member from (members h.p)) (from_not (is_answered h.p h.v from term) n)).0)))
+    (λ n. goes (leader_is h.v.role (and_parts (is_leader h.v.role) ((term == h.p.term) && is_member from (members h.p)) (not-false (is_answered h.p h.v from term) n)).0)))
 
 pub append_reply_range : (h : Here) (from term : ℕ) (taken : Bool) (index : ℕ) → IsMember from → term ≤ most_index → Goes h (on_append_reply h.me h.p h.v from term taken index)
 append_reply_range h from term true index m most = answered h from term (matches h.me h.p h.v from index) most (λ leader. matches_range h from index m leader)

@@ -1,7 +1,7 @@
 -- Parts that are in range are taken by a store.
 use Rattle.std.proofs.Common.{◌&&◌, ◌≡◌, ℕ, ◌+◌, ◌-◌, ◌*◌, ◌^◌, ◌≤◌, Bool, true, List, [], ◌∷◌, ◌++◌, length, refl, ap, arith, ◌∙◌, Some, nat_le, nat_lt, length-append}
 use Rattle.std.specs.Prelude.{is_some}
-use Rattle.std.proofs.lemmas.Bool.{le-leb, lt-ltb}
+use Rattle.std.proofs.lemmas.Bool.{le-leb, lt-ltb, and_from}
 use Rattle.cp_base.specs.declared.identifier.GroupId.{GroupId}
 use Rattle.cp_codec.specs.Fields.{big_endian}
 use Rattle.cp_grammar.specs.Lists.{ItemsFit, items_spelling, each}
@@ -48,9 +48,6 @@ shorts format (e ∷ es) two r =
 
 -- ---- each part
 
-both : (a b : Bool) → a ≡ true → b ≡ true → (a && b) ≡ true
-both a b e f = rw (e, f) refl
-
 module _ (group : GroupId) (s : DurableState) (p : PersistentState) (most : group.0 ≤ most_index) (two : s.format ≡ 2) (stands : group_at s group.0 ≡ Some p) where
   if_there : (may : PersistentState → Bool) → may p ≡ true → if_stands may (group_at s group.0) ≡ true
   if_there may yes_ = ap (if_stands may) stands ∙ yes_
@@ -75,9 +72,9 @@ module _ (group : GroupId) (s : DurableState) (p : PersistentState) (most : grou
       let c = le-leb after (last p) r.1.high in
       let d = le-leb (after + length entries) (2 ^ 62) r.1.end in
       record {
-        legal = both (are_short s.format entries) (if_stands (may_append b.term after entries) (group_at s group.0)) (shorts s.format entries two r.1.all)
-            (if_there (may_append b.term after entries) (both (nat_le p.term b.term) (nat_le p.base after && (nat_le after (last p) && nat_le (after + length entries) (2 ^ 62))) (term_up b r.0)
-            (both (nat_le p.base after) (nat_le after (last p) && nat_le (after + length entries) (2 ^ 62)) a (both (nat_le after (last p)) (nat_le (after + length entries) (2 ^ 62)) c d))));
+        legal = and_from (are_short s.format entries) (if_stands (may_append b.term after entries) (group_at s group.0)) (shorts s.format entries two r.1.all)
+            (if_there (may_append b.term after entries) (and_from (nat_le p.term b.term) (nat_le p.base after && (nat_le after (last p) && nat_le (after + length entries) (2 ^ 62))) (term_up b r.0)
+            (and_from (nat_le p.base after) (nat_le after (last p) && nat_le (after + length entries) (2 ^ 62)) a (and_from (nat_le after (last p)) (nat_le (after + length entries) (2 ^ 62)) c d))));
         fits = ((omega arith, refl), ((group_fits group most, (r.0.term, (r.0.vote, ((let e = r.1.end in omega (arith, e)), list_fits entries r.1.all (omega (arith, few)))))), refl));
         room = omega (arith, long, few);
       }
@@ -88,7 +85,7 @@ module _ (group : GroupId) (s : DurableState) (p : PersistentState) (most : grou
       let short = r.1.short in
       let a = lt-ltb p.base at r.1.above in
       record {
-        legal = if_there (may_snapshot b.term at bytes) (both (nat_le p.term b.term) (nat_lt p.base at && is_some (head_of bytes)) (term_up b r.0) (both (nat_lt p.base at) (is_some (head_of bytes)) a r.1.head));
+        legal = if_there (may_snapshot b.term at bytes) (and_from (nat_le p.term b.term) (nat_lt p.base at && is_some (head_of bytes)) (term_up b r.0) (and_from (nat_lt p.base at) (is_some (head_of bytes)) a r.1.head));
         fits = ((omega arith, refl), ((group_fits group most, (r.0.term, (r.0.vote, (r.1.most, omega (arith, short))))), refl));
         room = omega (arith, short);
       }

@@ -1,7 +1,7 @@
 -- A tick, and what comes after each rule.
 use Rattle.std.proofs.Common.{◌||◌, ◌&&◌, ◌==◌, ◌≡◌, ℕ, suc, ◌-◌, ◌<◌, ◌≤◌, not, Bool, true, List, [], ◌++◌, length, map, filter, refl, sym, subst, arith, Option, Some, None, is_none, nat_lt, nat_le, if◌then◌else◌, ltb-true, ltb-false}
 use Rattle.std.specs.List.{AllByRecursion}
-use Rattle.std.proofs.lemmas.Bool.{and_parts}
+use Rattle.std.proofs.lemmas.Bool.{and_parts, not-false}
 use Rattle.cp_log_rules.specs.Persistent.{PersistentState, last}
 use Rattle.cp_rules.specs.declared.ballot.Ballot.{Ballot}
 use Rattle.cp_rules.specs.declared.role.Role.{Role}
@@ -19,7 +19,7 @@ use Rattle.cp_rules.specs.Snapshots.{own_head, from_start, writes_snapshot, own_
 use Rattle.cp_rules.specs.Confirming.{confirms, is_ready, settles}
 use Rattle.cp_rules.specs.Ticks.{expires, is_proposed, confirms_again, beats, on_tick}
 use Rattle.cp_rules_facts.specs.Soundness.{IsSound, IsSnapshotDue}
-use Rattle.cp_rules_facts.proofs.Basics.{either, from_not, leader_is, none_is}
+use Rattle.cp_rules_facts.proofs.Basics.{either, leader_is, none_is}
 use Rattle.cp_rules_facts.proofs.Ticks.{wrote}
 use Rattle.cp_rules_ranges.specs.Ranges.{KeptIsInRange, IsInRange, SentIsInRange, most_entry}
 use Rattle.cp_rules_ranges.proofs.Basics.{all_both, own_ballot, appends_in_range, all_told}
@@ -176,7 +176,7 @@ module _ (h : Here) (clock : ℕ) (late : clock ≤ most_index) (may_write : Boo
       either Ends (not may) (does None ticked []) (if length (members h.p) == 1 then (if may_write then taking else does None ticked []) else stands h.me h.p ticked)
       (λ n. nothing_due)
       (λ n.
-      let a = and_parts (is_member h.me (members h.p)) (waited && room) (from_not may n) in
+      let a = and_parts (is_member h.me (members h.p)) (waited && room) (not-false may n) in
       let b = and_parts waited room a.1 in
       let c = and_parts (nat_lt h.p.term most_index) (nat_lt (last h.p) most_index) b.1 in
       let low = ltb-true h.p.term most_index c.0 in

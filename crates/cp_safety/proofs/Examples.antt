@@ -1,7 +1,8 @@
 -- The executions in full meet what they are said to meet. Each step's facts are given by what it did; what it sent, message by message.
 use Rattle.std.proofs.Common.{◌≡◌, ◌≢◌, ℕ, zero, suc, ◌+◌, ◌≤◌, ◌⊎◌, inl, inr, ⊎_elim, Bool, true, false, List, [], ◌∷◌, refl, ap, sym, ◌∙◌, arith, subst, Some, None, Option, slice_get, Contains, true≢false, ◌==◌, ◌||◌, zero-add}
-use Rattle.std.proofs.lemmas.Bool.{or_cases, cases_eq, ne_eqb}
+use Rattle.std.proofs.lemmas.Bool.{or_cases}
 use Rattle.std.proofs.lemmas.Option.{same_Some, slice_get_within}
+use Rattle.cp_base.proofs.Tests.{same_number}
 use Rattle.cp_grammar.specs.Grammar.{whole}
 use Rattle.cp_grammar.specs.Fields.{mark_reading, number_reading}
 use Rattle.cp_grammar.specs.Lists.{items_reading}
@@ -17,11 +18,8 @@ use Rattle.cp_safety.specs.Examples.{three, alone, entry, adds_two, adds_three, 
 abbrev pair : ℕ → ℕ → ℕ → Bool
 pair a b m = (m == a) || (m == b)
 
-eq_of : (a b : ℕ) → (a == b) ≡ true → a ≡ b
-eq_of a b e = ⊎_elim (λ h. h) (λ (ne : a ≡ b → ⊥). absurd (true≢false (sym e ∙ ne_eqb a b ne))) (cases_eq a b)
-
 pair_cases : (a b m : ℕ) → pair a b m ≡ true → (m ≡ a) ⊎ (m ≡ b)
-pair_cases a b m e = ⊎_elim (λ h. inl (eq_of m a h)) (λ h. inr (eq_of m b h)) (or_cases (m == a) (m == b) e)
+pair_cases a b m e = ⊎_elim (λ h. inl (same_number m a h)) (λ h. inr (same_number m b h)) (or_cases (m == a) (m == b) e)
 
 -- P of each message of a list, one by one
 abbrev Each : (Message → Type 0) → List Message → Type 0

@@ -1,9 +1,9 @@
 -- The lines behind the header are lawful, and none of them begins as a line of the header.
-use Rattle.std.proofs.Common.{◌≡◌, ℕ, ◌+◌, ◌^◌, ◌<◌, ◌≤◌, Bool, true, false, not, leb, ◌&&◌, List, [], ◌∷◌, ◌++◌, length, refl, sym, ap, subst, append_assoc, arith, ◌%◌}
+use Rattle.std.proofs.Common.{◌≡◌, ℕ, ◌+◌, ◌^◌, ◌<◌, ◌≤◌, true, false, not, leb, ◌&&◌, List, [], ◌∷◌, ◌++◌, length, refl, sym, ap, subst, append_assoc, arith, ◌%◌}
 use Rattle.std.specs.Prelude.{Option, Some, None, codes}
 use Rattle.std.specs.Fmt.{decimal}
 use Rattle.std.specs.Str.Parse.{digits_value}
-use Rattle.std.proofs.lemmas.Bool.{eq-eqb, le-leb, leb-true}
+use Rattle.std.proofs.lemmas.Bool.{eq-eqb, le-leb, leb-true, and_parts}
 use Rattle.std.proofs.lemmas.Fmt.{decimal_is_IsNumeral, decimal_by_steps}
 use Rattle.std.proofs.lemmas.List.{length-append}
 use Rattle.cp_codec.specs.Exact.{IsByte}
@@ -27,10 +27,6 @@ use Rattle.cp_schedule.proofs.HeaderLaws.{IsBehindHeader}
 
 -- ---- numbers with whichever end
 
-and_true : (a b : Bool) → (a && b) ≡ true → (a ≡ true) × (b ≡ true)
-and_true true b e = (refl, e)
-and_true false b e = absurd cc
-
 same_self : (xs : List ℕ) → same_bytes xs xs ≡ true
 same_self [] = refl
 same_self (x ∷ xs) = rw (eq-eqb x x refl, same_self xs) refl
@@ -42,7 +38,7 @@ word_push : (w : List ℕ) (b : ℕ) → is_word w ≡ true → is_end b ≡ fal
 unfolding is_word
 word_push [] b p q = absurd cc
 word_push (x ∷ []) b p q = rw (p, q) refl
-word_push (x ∷ y ∷ xs) b p q = let h = and_true (not (is_end x)) (is_word (y ∷ xs)) p in rw (h.0, word_push (y ∷ xs) b h.1 q) refl
+word_push (x ∷ y ∷ xs) b p q = let h = and_parts (not (is_end x)) (is_word (y ∷ xs)) p in rw (h.0, word_push (y ∷ xs) b h.1 q) refl
 
 one_digit : (d : ℕ) → d < 10 → is_word ((48 + d) ∷ []) ≡ true
 unfolding is_word
@@ -55,7 +51,7 @@ pub ended_lawful : (most : ℕ) → most < 2 ^ 64 → IsLawful IsByte (ended_num
 unfolding ended_number_reading is_decimal
 ended_lawful most lt =
     let law = mapped_lawful IsByte (checked token (λ t. is_decimal t.0 && leb (digits_value 10 t.0) most)) (checked_lawful IsByte token token_lawful _) (λ t. (digits_value 10 t.0, t.1)) (λ p. (decimal p.0, p.1))
-    (λ t fits. let h = and_true (same_bytes t.0 (decimal (digits_value 10 t.0))) (leb (digits_value 10 t.0) most) fits.1 in ap (λ (w : List ℕ). (w, t.1)) (sym (exact_bytes _ _ h.0))) in
+    (λ t fits. let h = and_parts (same_bytes t.0 (decimal (digits_value 10 t.0))) (leb (digits_value 10 t.0) most) fits.1 in ap (λ (w : List ℕ). (w, t.1)) (sym (exact_bytes _ _ h.0))) in
     record {
       again = λ p rest fits.
           let back : digits_value 10 (decimal p.0) ≡ p.0 = (decimal_is_IsNumeral p.0 (omega (arith, fits.0))).1 in
@@ -64,7 +60,7 @@ ended_lawful most lt =
           law.again p rest (((decimal_word p.0 (omega (arith, fits.0)), fits.1), rw (canonical, small) refl), ap (λ (n : ℕ). (n, p.1)) back);
       takes = λ bs p rest good e.
           let h = law.takes bs p rest good e in
-          let g = and_true (same_bytes (decimal p.0) (decimal (digits_value 10 (decimal p.0)))) (leb (digits_value 10 (decimal p.0)) most) h.1.0.1 in
+          let g = and_parts (same_bytes (decimal p.0) (decimal (digits_value 10 (decimal p.0)))) (leb (digits_value 10 (decimal p.0)) most) h.1.0.1 in
           let small : digits_value 10 (decimal p.0) ≤ most = leb-true _ _ g.1 in
           (h.0, (subst (λ (q : ℕ × ℕ). q.0 ≤ most) h.1.1 small, h.1.0.0.1));
     }

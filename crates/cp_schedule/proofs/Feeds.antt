@@ -1,9 +1,9 @@
 -- How many line feeds a grammar spells: none in words that a space ends, one in a line.
-use Rattle.std.proofs.Common.{◌≡◌, ℕ, ◌+◌, ◌^◌, ◌<◌, ◌≤◌, Bool, true, false, cond, not, eqb, ltb, ◌&&◌, List, [], ◌∷◌, ◌++◌, refl, ap, ◌∙◌, arith}
+use Rattle.std.proofs.Common.{◌≡◌, ℕ, ◌+◌, ◌^◌, ◌<◌, ◌≤◌, Bool, true, false, cond, not, eqb, ltb, List, [], ◌∷◌, ◌++◌, refl, ap, ◌∙◌, arith}
 use Rattle.std.specs.Prelude.{◌==◌, ◌||◌, Option, Some, None}
 use Rattle.std.specs.Fmt.{decimal}
 use Rattle.std.specs.List.{count_by}
-use Rattle.std.proofs.lemmas.Bool.{ltb-true}
+use Rattle.std.proofs.lemmas.Bool.{ltb-true, and_parts}
 use Rattle.std.proofs.lemmas.List.Sums.{sum_by-append}
 use Rattle.cp_grammar.specs.Grammar.{Grammar, always, one_field, checked, ◌then◌, keyed, mapped, spelled_of, FitsOf, variant, Chosen, no_case}
 use Rattle.cp_grammar.specs.Words.{is_end, is_word, Token, token, word, same_token, keyword, number_word}
@@ -43,10 +43,6 @@ no_feed true line e = absurd cc
 no_feed false true e = absurd cc
 no_feed false false e = refl
 
-both_true : (a b : Bool) → (a && b) ≡ true → (a ≡ true) × (b ≡ true)
-both_true true b e = (refl, e)
-both_true false b e = absurd cc
-
 feeds_more : (b : ℕ) (bs : List ℕ) → not (is_end b) ≡ true → feeds bs ≡ 0 → feeds (b ∷ bs) ≡ 0
 unfolding feeds
 feeds_more b bs inside none = rw (no_feed (eqb b 32) (eqb b 10) inside, none) refl
@@ -55,7 +51,7 @@ pub word_feeds : (w : List ℕ) → is_word w ≡ true → feeds w ≡ 0
 unfolding is_word
 word_feeds [] is = absurd cc
 word_feeds (b ∷ []) is = feeds_more b [] is feeds_none
-word_feeds (b ∷ c ∷ bs) is = let h = both_true (not (is_end b)) (is_word (c ∷ bs)) is in feeds_more b (c ∷ bs) h.0 (word_feeds (c ∷ bs) h.1)
+word_feeds (b ∷ c ∷ bs) is = let h = and_parts (not (is_end b)) (is_word (c ∷ bs)) is in feeds_more b (c ∷ bs) h.0 (word_feeds (c ∷ bs) h.1)
 
 -- of a word and its end
 pub ended_feeds : (w : List ℕ) (e : ℕ) → is_word w ≡ true → feeds (w ++ e ∷ []) ≡ feed e

@@ -1,10 +1,11 @@
 -- The grammar of schedules is lawful, and what a reader tells of a text follows from what the text spells.
-use Rattle.std.proofs.Common.{◌≡◌, ℕ, ◌+◌, ◌<◌, ◌≤◌, Bool, true, false, cond, not, ◌&&◌, ltb, List, [], ◌∷◌, ◌++◌, length, Result, Ok, Err, refl, ap, append_assoc, arith}
+use Rattle.std.proofs.Common.{◌≡◌, ℕ, ◌+◌, ◌<◌, ◌≤◌, Bool, true, false, cond, not, ltb, List, [], ◌∷◌, ◌++◌, length, Result, Ok, Err, refl, ap, append_assoc, arith}
 use Rattle.std.specs.List.{AllByRecursion}
 use Rattle.std.specs.Prelude.{IfOk}
 use Rattle.cp_schedule.specs.declared.reading.ScheduleError.{ScheduleError}
 use Rattle.std.proofs.lemmas.Bool.{ltb-false, ltb-true, lt-ltb}
 use Rattle.std.proofs.lemmas.List.{length-append}
+use Rattle.cp_base.proofs.Tests.{first_true}
 use Rattle.cp_codec.specs.Exact.{IsByte}
 use Rattle.cp_grammar.specs.Grammar.{Grammar, seq, whole}
 use Rattle.cp_grammar.specs.Lawful.{IsLawful}
@@ -109,15 +110,11 @@ lines_within bytes s is =
 
 -- ---- limits are few
 
-both_hold : (a b : Bool) → (a && b) ≡ true → a ≡ true
-both_hold true b e = refl
-both_hold false b e = absurd cc
-
 few_limits : (xs before : List HoldLimit) → UntilFits limit_line before xs → length before ≤ 16 → length before + length xs ≤ 16
 unfolding UntilFits limit_line
 few_limits [] before fits le = omega arith
 few_limits (x ∷ xs) before fits le =
-    let h = both_hold (ltb (length before) 16) (not (is_limited before x.lock)) fits.0.1 in
+    let h = first_true (ltb (length before) 16) (not (is_limited before x.lock)) fits.0.1 in
     let below : length before < 16 = ltb-true _ _ h in
     omega (arith, below, few_limits xs (before ++ x ∷ []) fits.1 (omega (arith, below, length-append before (x ∷ []))), length-append before (x ∷ []))
 

@@ -5,8 +5,8 @@ use Rattle.std.specs.Ordering.{is_eq}
 use Rattle.std.specs.BTreeMap.{is_at}
 use Rattle.std.specs.List.{filter}
 use Rattle.std.specs.List.Sorted.{IsStrictlySortedBy}
-use Rattle.std.proofs.lemmas.Slice.Eq.{bytes_eq-Decides}
 use Rattle.std.proofs.Math.IntN.{+ℤ_assoc, +ℤ_idr, pos-+ℤ-pos}
+use Rattle.cp_base.proofs.Tests.{no_true, bytes_same, bytes_itself}
 use Rattle.cp_op_values.specs.declared.kind.Kind.{Kind}
 use Rattle.cp_op_values.specs.declared.kind.Kind.TheVariants as kind
 use Rattle.cp_group_state.specs.Rows.{Object, find, put, object_cmp}
@@ -14,18 +14,12 @@ use Rattle.cp_group_state.specs.Sessions.{is_among}
 use Rattle.cp_group_state.specs.Semaphores.{Semaphores, is_held, held_together, with_back, all_back}
 use Rattle.cp_group_state.specs.Invariants.{IsRising}
 use Rattle.cp_group_state.specs.declared.rows.SemaphoreRow.{SemaphoreRow}
-use Rattle.cp_group_state.proofs.Keyed.{no_true, equal_is, pair_same, object_key, find-put_same, find-put_other}
+use Rattle.cp_group_state.proofs.Keyed.{equal_is, pair_same, object_key, find-put_same, find-put_other}
 use Rattle.cp_group_state.proofs.Rising.{rising-put}
 use Rattle.cp_group_state.proofs.Ordered.{object_total, keys-map}
 use Rattle.cp_semaphore.specs.Backs.{back_at, back_one, back_each, amount}
 use Rattle.cp_semaphore.proofs.Extensional.{same_rows}
 use Rattle.cp_semaphore.proofs.Together.{together-more, gone-more, none-together, all-stay}
-
-name_same : (a b : List ℕ) → bytes_eq a b ≡ true → a ≡ b
-name_same a b h = (bytes_eq-Decides a b).0 h
-
-name_itself : (a : List ℕ) → bytes_eq a a ≡ true
-name_itself a = (bytes_eq-Decides a a).1 refl
 
 -- one kind is held
 pub held-kind : (k : Kind) → is_held k ≡ true → k ≡ kind.Sem
@@ -91,9 +85,9 @@ find-each (e ∷ es) rows q = find-each es (back_one rows (e.0, kind.Sem) e.1) q
         → backed q (amount es q.0) (if a then backed q e.1 (find object_cmp rows q) else find object_cmp rows q) ≡ backed q ((if b then e.1 else 0) + amount es q.0) (find object_cmp rows q)
     by true true d i j k = backed-twice q e.1 (amount es q.0) (find object_cmp rows q)
     by true false d i j k = let same : q ≡ (e.0, kind.Sem) = object_key.same q (e.0, kind.Sem) (equal_is _ i) in
-        absurd (no_true (sym (subst (λ (x : Object). bytes_eq x.0 e.0 ≡ true) (sym same) (name_itself e.0)) ∙ j))
+        absurd (no_true (sym (subst (λ (x : Object). bytes_eq x.0 e.0 ≡ true) (sym same) (bytes_itself e.0)) ∙ j))
     by false b false i j k = unheld q (amount es q.0) ((if b then e.1 else 0) + amount es q.0) (find object_cmp rows q) k
-    by false true true i j k = let same : q ≡ (e.0, kind.Sem) = pair_same q (e.0, kind.Sem) (name_same q.0 e.0 j) (held-kind q.1 k) in
+    by false true true i j k = let same : q ≡ (e.0, kind.Sem) = pair_same q (e.0, kind.Sem) (bytes_same q.0 e.0 j) (held-kind q.1 k) in
         absurd (no_true (sym (subst (λ (x : Object). is_at (object_cmp x) (e.0, kind.Sem) ≡ true) (sym same) (ap is_eq (object_key.here (e.0, kind.Sem)))) ∙ i))
     by false false true i j k = ap (λ (n : ℕ). backed q n (find object_cmp rows q)) nothing
       where

@@ -9,12 +9,13 @@ use Rattle.std.proofs.lemmas.Int.{ints}
 use Rattle.std.proofs.lemmas.List.Sums.{sum_by-cons}
 use Rattle.std.proofs.lemmas.Bool.Decides.{nat_tests}
 use Rattle.std.proofs.Math.IntN.{+ℤ_assoc, pos-+ℤ-pos}
+use Rattle.cp_base.proofs.Tests.{no_true}
 use Rattle.cp_group_state.specs.Rows.{Object, find, most, object_cmp, holding_cmp}
 use Rattle.cp_group_state.specs.Sessions.{is_among}
 use Rattle.cp_group_state.specs.Semaphores.{Semaphores, is_held, held, held_together, with_back, all_back}
 use Rattle.cp_group_state.specs.Invariants.{IsBalanced, IsBalancedAt, held_by_all, held_of}
 use Rattle.cp_group_state.specs.declared.rows.SemaphoreRow.{SemaphoreRow}
-use Rattle.cp_group_state.proofs.Keyed.{no_true, equal_is, number_key, find-filter_kept, find-filter_gone}
+use Rattle.cp_group_state.proofs.Keyed.{equal_is, number_key, find-filter_kept, find-filter_gone}
 use Rattle.cp_group_state.proofs.Rising.{rising-filter}
 use Rattle.cp_group_state.proofs.Ordered.{holding_total, holding_key, keys-map}
 use Rattle.cp_semaphore.specs.Nested.{Nested, flat, found_in, IsNested, ClosesSession}

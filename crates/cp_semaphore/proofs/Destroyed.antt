@@ -10,12 +10,13 @@ use Rattle.std.specs.declared.result.Result.{Result}
 use Rattle.std.specs.declared.result.Result.TheVariants.{Ok, Err}
 use Rattle.std.proofs.lemmas.Bool.Decides.{nat_tests}
 use Rattle.std.proofs.lemmas.Slice.Eq.{bytes_eq-Decides}
+use Rattle.cp_base.proofs.Tests.{no_true, alike}
 use Rattle.cp_group_state.specs.Rows.{Object, find, without, most, name_cmp, object_cmp, holding_cmp}
 use Rattle.cp_group_state.specs.Sessions.{is_among}
 use Rattle.cp_group_state.specs.Semaphores.{Semaphores, is_held, sem_destroyed}
 use Rattle.cp_group_state.specs.Invariants.{IsRising, IsBalanced, IsBalancedAt, held_by_all, held_of}
 use Rattle.cp_group_state.specs.declared.rows.SemaphoreRow.{SemaphoreRow}
-use Rattle.cp_group_state.proofs.Keyed.{no_true, equal_is, pair_same, number_key, name_key, object_key, find-filter_kept, find-filter_gone, find-without_other}
+use Rattle.cp_group_state.proofs.Keyed.{equal_is, pair_same, number_key, name_key, object_key, find-filter_kept, find-filter_gone, find-without_other}
 use Rattle.cp_group_state.proofs.Rising.{rising-without, rising-filter, find-without_same}
 use Rattle.cp_group_state.proofs.Ordered.{object_total, holding_total, holding_key}
 use Rattle.cp_semaphore.specs.Nested.{Nested, flat, found, found_in, IsNested, Sets, without_name}
@@ -26,12 +27,6 @@ use Rattle.cp_semaphore.proofs.Flattening.{flat-found, flat-rises}
 use Rattle.cp_semaphore.proofs.Together.{Holdings, all-stay}
 use Rattle.cp_semaphore.proofs.Backing.{held-kind}
 use Rattle.cp_semaphore.proofs.Within.{within-without}
-
-alike : (a b : Bool) → (a ≡ true → b ≡ true) → (b ≡ true → a ≡ true) → a ≡ b
-alike true true f g = refl
-alike false false f g = refl
-alike true false f g = sym (f refl)
-alike false true f g = g refl
 
 number_test : (a b : ℕ) → is_at (nat_cmp a) b ≡ (a == b)
 number_test a b = alike (is_at (nat_cmp a) b) (a == b) (λ h. let e : a ≡ b = number_key.same a b (equal_is _ h) in subst (λ (x : ℕ). (a == x) ≡ true) e (itself a))

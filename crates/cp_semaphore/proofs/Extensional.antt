@@ -8,6 +8,7 @@ use Rattle.std.specs.BTreeMap.{is_at}
 use Rattle.std.specs.List.{AllByRecursion}
 use Rattle.std.specs.List.Sorted.{IsStrictlySortedBy}
 use Rattle.std.specs.Map.{keys_of, lookup}
+use Rattle.std.proofs.lemmas.Option.{same_Some}
 use Rattle.cp_group_state.specs.Rows.{find}
 use Rattle.cp_group_state.specs.Invariants.{IsRising}
 use Rattle.cp_group_state.proofs.Keyed.{IsKey}
@@ -15,9 +16,6 @@ use Rattle.cp_group_state.proofs.Rising.{less-none, above-all}
 
 no_some : {X : Type 0} (x : X) → Some x ≡ None → ⊥
 no_some x e = cc
-
-some_is : {X : Type 0} (x y : X) → Some x ≡ Some y → x ≡ y
-some_is x y e = cc
 
 turned : {K : Type 0} (cmp : K → K → Ordering) → IsTotalOrder cmp → (a b : K) → cmp a b ≡ Greater → cmp b a ≡ Less
 turned cmp total a b h = total.antisymm b a ∙ ap ordering_reverse h
@@ -58,7 +56,7 @@ module _ {K X : Type 0} (cmp : K → K → Ordering) (key : IsKey cmp) (total : 
       by Less h rest = absurd (no_some e.1 (sym (find-first e es) ∙ alike e.0 ∙ below e f fs b h))
       by Greater h rest = absurd (no_some f.1 (sym (find-first f fs) ∙ sym (alike f.0) ∙ below f e es a (turned cmp total e.0 f.0 h)))
       by Equal h rest = let same : e.0 ≡ f.0 = key.same e.0 f.0 h in
-          let value : e.1 ≡ f.1 = some_is e.1 f.1 (sym (find-first e es) ∙ alike e.0 ∙ ap (λ (k : K). find cmp (f ∷ fs) k) same ∙ find-first f fs) in
+          let value : e.1 ≡ f.1 = same_Some e.1 f.1 (sym (find-first e es) ∙ alike e.0 ∙ ap (λ (k : K). find cmp (f ∷ fs) k) same ∙ find-first f fs) in
           λ i. (same i, value i) ∷ rest same i
 
 -- a list behind another

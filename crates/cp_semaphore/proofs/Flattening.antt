@@ -10,10 +10,11 @@ use Rattle.std.specs.List.Sorted.{IsStrictlySortedBy}
 use Rattle.std.specs.Map.{keys_of}
 use Rattle.std.proofs.lemmas.Cmp.{nat_cmp_total}
 use Rattle.std.proofs.lemmas.Bool.Decides.{nat_tests}
+use Rattle.cp_base.proofs.Tests.{no_true}
 use Rattle.cp_group_state.specs.Rows.{find, put, without, name_cmp, holding_cmp}
 use Rattle.cp_group_state.specs.Invariants.{IsRising}
 use Rattle.cp_group_state.specs.Semaphores.{held, set_held}
-use Rattle.cp_group_state.proofs.Keyed.{no_true, equal_is, number_key, name_key, find-put_same, find-put_other, find-without_other}
+use Rattle.cp_group_state.proofs.Keyed.{equal_is, number_key, name_key, find-put_same, find-put_other, find-without_other}
 use Rattle.cp_group_state.proofs.Rising.{less-none, rising-put, rising-without, find-without_same}
 use Rattle.cp_group_state.proofs.Ordered.{holding_total, holding_key}
 use Rattle.cp_semaphore.specs.Nested.{Nested, under, flat, found, found_in, IsNested, held_option, Sets}

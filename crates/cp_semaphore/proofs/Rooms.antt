@@ -4,7 +4,7 @@ use Rattle.std.specs.Prelude.{ℤ, pos, neg_ℤ, ◌+ℤ◌, ◌≤ℤ◌, ◌<�
 use Rattle.std.specs.BTreeMap.{BTreeMap, is_at}
 use Rattle.std.specs.Ordering.{nat_cmp}
 use Rattle.std.proofs.lemmas.Int.{ints}
-use Rattle.std.proofs.lemmas.Slice.Eq.{bytes_eq-Decides}
+use Rattle.cp_base.proofs.Tests.{bytes_itself}
 use Rattle.cp_op_values.specs.declared.kind.Kind.TheVariants as kind
 use Rattle.cp_group_state.specs.Rows.{Object, find, put, object_cmp}
 use Rattle.cp_group_state.specs.Semaphores.{held, with_back}
@@ -45,11 +45,8 @@ low-after a n h = omega (arith, ints)
 some_is : (a b : SemaphoreRow) → Some a ≡ Some b → a ≡ b
 some_is a b e = cc
 
-name_itself : (a : List ℕ) → bytes_eq a a ≡ true
-name_itself a = (bytes_eq-Decides a a).1 refl
-
 amount-here : (e : List ℕ × ℕ) (es : List (List ℕ × ℕ)) → amount (e ∷ es) e.0 ≡ e.1 + amount es e.0
-amount-here e es = rw (name_itself e.0) refl
+amount-here e es = rw (bytes_itself e.0) refl
 
 rooms-one : (e : List ℕ × ℕ) (es : List (List ℕ × ℕ)) (rows : List (Object × SemaphoreRow)) → Rooms (e ∷ es) rows → Rooms es (back_one rows (e.0, kind.Sem) e.1)
 rooms-one e es rows rooms name row = at (find object_cmp rows (e.0, kind.Sem)) refl

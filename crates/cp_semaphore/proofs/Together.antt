@@ -7,37 +7,24 @@ use Rattle.std.specs.Ordering.{is_eq}
 use Rattle.std.specs.List.{filter, AllByRecursion}
 use Rattle.std.specs.List.Sorted.{IsStrictlySortedBy}
 use Rattle.std.specs.Map.{keys_of}
-use Rattle.std.proofs.lemmas.Bool.Decides.{nat_tests}
-use Rattle.std.proofs.lemmas.Slice.Eq.{bytes_eq-Decides}
 use Rattle.std.proofs.lemmas.List.Sums.{sum_by-cons}
+use Rattle.cp_base.proofs.Tests.{no_true, same_number, number_itself, bytes_itself, bytes_same}
 use Rattle.cp_group_state.specs.Rows.{find, name_cmp, holding_cmp}
 use Rattle.cp_group_state.specs.Sessions.{is_among}
 use Rattle.cp_group_state.specs.Semaphores.{held, held_together}
 use Rattle.cp_group_state.specs.Invariants.{IsRising}
-use Rattle.cp_group_state.proofs.Keyed.{no_true, name_key}
+use Rattle.cp_group_state.proofs.Keyed.{name_key}
 use Rattle.cp_group_state.proofs.Ordered.{holding_key}
 use Rattle.cp_semaphore.specs.Backs.{amount}
 
 abbrev pub Holdings : Type 0
 Holdings = List ((ℕ × List ℕ) × ℕ)
 
-test_same : (a b : ℕ) → (a == b) ≡ true → a ≡ b
-test_same a b h = grind (arith, nat_tests)
-
-test_itself : (a : ℕ) → (a == a) ≡ true
-test_itself a = grind (arith, nat_tests)
-
-name_itself : (a : List ℕ) → bytes_eq a a ≡ true
-name_itself a = (bytes_eq-Decides a a).1 refl
-
-name_same : (a b : List ℕ) → bytes_eq a b ≡ true → a ≡ b
-name_same a b h = (bytes_eq-Decides a b).0 h
-
 -- of one session and a name
 one_hit : (session : ℕ) (name : List ℕ) (key : ℕ × List ℕ) → (is_among (session ∷ []) key.0 && bytes_eq name key.1) ≡ true → holding_cmp (session, name) key ≡ Equal
 one_hit session name key h = let both = parts (session == key.0) (bytes_eq name key.1) h in
-    let s : session ≡ key.0 = test_same session key.0 both.0 in
-    let n : name ≡ key.1 = name_same name key.1 both.1 in
+    let s : session ≡ key.0 = same_number session key.0 both.0 in
+    let n : name ≡ key.1 = bytes_same name key.1 both.1 in
     subst (λ (k : ℕ × List ℕ). holding_cmp (session, name) k ≡ Equal) (λ i. (s i, n i)) (holding_key.here (session, name))
   where
     parts : (a b : Bool) → ((a || false) && b) ≡ true → (a ≡ true) × (b ≡ true)
@@ -48,7 +35,7 @@ one_here : (session : ℕ) (name : List ℕ) (key : ℕ × List ℕ) → holding
 one_here session name key h = subst (λ (k : ℕ × List ℕ). (is_among (session ∷ []) k.0 && bytes_eq name k.1) ≡ true) (holding_key.same (session, name) key h) here
   where
     here : (is_among (session ∷ []) session && bytes_eq name name) ≡ true
-    here = rw (test_itself session, name_itself name) refl
+    here = rw (number_itself session, bytes_itself name) refl
 
 no_equal : (o : Ordering) → o ≡ Less → o ≡ Equal → ⊥
 no_equal o a b = less_equal (sym a ∙ b)
@@ -98,7 +85,7 @@ amount-above name [] all = refl
 amount-above name (e ∷ es) all = by (bytes_eq name e.0) refl (amount-above name es all.1)
   where
     by : (b : Bool) → bytes_eq name e.0 ≡ b → amount es name ≡ 0 → (if b then e.1 else 0) + amount es name ≡ 0
-    by true i rest = absurd (no_equal (name_cmp name e.0) all.0 (subst (λ (n : List ℕ). name_cmp name n ≡ Equal) (name_same name e.0 i) (name_key.here name)))
+    by true i rest = absurd (no_equal (name_cmp name e.0) all.0 (subst (λ (n : List ℕ). name_cmp name n ≡ Equal) (bytes_same name e.0 i) (name_key.here name)))
     by false i rest = omega arith
 
 pub amount-found : (name : List ℕ) (es : List (List ℕ × ℕ)) → IsRising name_cmp es → amount es name ≡ unwrap_or (find name_cmp es name) 0
@@ -113,13 +100,13 @@ amount-found name (e ∷ es) rises = by (name_cmp name e.0) (bytes_eq name e.0) 
     greater_equal e = cc
 
     equal : bytes_eq name e.0 ≡ true → name_cmp name e.0 ≡ Equal
-    equal i = subst (λ (n : List ℕ). name_cmp name n ≡ Equal) (name_same name e.0 i) (name_key.here name)
+    equal i = subst (λ (n : List ℕ). name_cmp name n ≡ Equal) (bytes_same name e.0 i) (name_key.here name)
 
     by : (o : Ordering) (b : Bool) → name_cmp name e.0 ≡ o → bytes_eq name e.0 ≡ b → amount es name ≡ unwrap_or (find name_cmp es name) 0
         → (if b then e.1 else 0) + amount es name ≡ unwrap_or (cond (is_eq o) (Some e.1) (find name_cmp es name)) 0
     by Equal true i j rest = let key : name ≡ e.0 = name_key.same name e.0 i in
         let none : amount es name ≡ 0 = amount-above name es (subst (λ (n : List ℕ). AllByRecursion (λ y. name_cmp n y ≡ Less) (keys_of es)) (sym key) rises.0) in omega arith
-    by Equal false i j rest = absurd (no_true (sym (subst (λ (n : List ℕ). bytes_eq name n ≡ true) (name_key.same name e.0 i) (name_itself name)) ∙ j))
+    by Equal false i j rest = absurd (no_true (sym (subst (λ (n : List ℕ). bytes_eq name n ≡ true) (name_key.same name e.0 i) (bytes_itself name)) ∙ j))
     by Less true i j rest = absurd (less_equal (sym i ∙ equal j))
     by Greater true i j rest = absurd (greater_equal (sym i ∙ equal j))
     by Less false i j rest = omega arith

@@ -1,24 +1,17 @@
 -- The numbers of sessions by client after a change.
-use Rattle.std.proofs.Common.{◌≡◌, ℕ, true, false, List, [], Option, Some, None, refl, sym, ap, ◌∙◌, cond}
+use Rattle.std.proofs.Common.{◌≡◌, ℕ, true, List, [], Option, Some, None, refl, sym, ap, ◌∙◌, cond}
 use Rattle.std.specs.declared.cmp.Ordering.{Ordering}
 use Rattle.std.specs.declared.cmp.Ordering.TheVariants.{Less, Equal, Greater}
 use Rattle.std.specs.Ordering.{nat_cmp, is_eq}
+use Rattle.std.proofs.lemmas.Option.{none-some, same_Some}
 use Rattle.cp_base.specs.declared.identifier.ClientId.{ClientId}
+use Rattle.cp_base.proofs.Tests.{no_true}
 use Rattle.cp_group_state.specs.declared.rows.SessionRow.{SessionRow}
 use Rattle.cp_group_state.specs.Rows.{find, put}
 use Rattle.cp_group_state.specs.Waiters.{same_client}
 use Rattle.cp_group_state.specs.Sessions.{is_of, is_open_for}
 use Rattle.cp_group_state.proofs.Keyed.{IsKey, name_key, number_key, same-client, client-itself, find-put_same, find-put_other, is_at_apart}
 use Rattle.cp_session.specs.Index.{IsIndexed, Sets, client_cmp}
-
-no_true : true ≡ false → ⊥
-no_true e = cc
-
-none_some : {X : Type 0} (x : X) → None ≡ Some x → ⊥
-none_some x e = cc
-
-some_same : {X : Type 0} (x y : X) → Some x ≡ Some y → x ≡ y
-some_same x y e = cc
 
 pub client_key : IsKey client_cmp
 client_key = record { here = λ k. name_key.here k.0; same = λ k q e. let same = name_key.same k.0 q.0 e in λ j. record { 0 = same j } }
@@ -74,7 +67,7 @@ row_where rows n client h = by (find nat_cmp rows n) refl h where
   by (Some row) there its = (row, there, same-client row.client client its)
 
 pub none_indexed : IsIndexed [] []
-none_indexed = record { are_named = λ n row h. absurd (none_some row h); are_open = λ client n h. absurd (none_some n h) }
+none_indexed = record { are_named = λ n row h. absurd (none-some row h); are_open = λ client n h. absurd (none-some n h) }
 
 -- a new session of a client that had none, under a new number
 module _ (rows rows' : List (ℕ × SessionRow)) (numbers numbers' : List (ClientId × ℕ)) (client : ClientId) (number : ℕ) (fresh : SessionRow)
@@ -88,17 +81,17 @@ module _ (rows rows' : List (ℕ × SessionRow)) (numbers numbers' : List (Clien
 
   -- another client than one that had a session before
   other_client : (c : ClientId) (n : ℕ) → find client_cmp numbers c ≡ Some n → client ≡ c → ⊥
-  other_client c n had same = none_some n (sym none ∙ ap (find client_cmp numbers) same ∙ had)
+  other_client c n had same = none-some n (sym none ∙ ap (find client_cmp numbers) same ∙ had)
 
   its_number : (n : ℕ) (row : SessionRow) → number ≡ n → find nat_cmp rows' n ≡ Some row → find client_cmp numbers' row.client ≡ Some n
   its_number n row same h =
-      let row_is : fresh ≡ row = some_same fresh row (sym put_here ∙ ap (find nat_cmp rows') same ∙ h) in
+      let row_is : fresh ≡ row = same_Some fresh row (sym put_here ∙ ap (find nat_cmp rows') same ∙ h) in
       let mine : client ≡ row.client = sym its ∙ ap (λ (r : SessionRow). r.client) row_is in
       ap (find client_cmp numbers') (sym mine) ∙ named_here ∙ ap (λ (x : ℕ). Some x) same
 
   its_session : (c : ClientId) (n : ℕ) → client ≡ c → find client_cmp numbers' c ≡ Some n → is_open_for rows' n c ≡ true
   its_session c n same h =
-      let number_is : number ≡ n = some_same number n (sym named_here ∙ ap (find client_cmp numbers') same ∙ h) in
+      let number_is : number ≡ n = same_Some number n (sym named_here ∙ ap (find client_cmp numbers') same ∙ h) in
       open_where rows' n fresh c (ap (find nat_cmp rows') (sym number_is) ∙ put_here) (its ∙ same)
 
   pub opened_new : find nat_cmp rows number ≡ None → IsIndexed rows' numbers'
@@ -111,7 +104,7 @@ module _ (rows rows' : List (ℕ × SessionRow)) (numbers numbers' : List (Clien
         (λ same. its_session c n same h)
         (λ away kept. let was : is_open_for rows n c ≡ true = indexed.are_open c n (sym kept ∙ h) in
         at_key nat_cmp number_key number (Some fresh) rows rows' puts n
-        (λ same. let there = row_where rows n c was in absurd (none_some there.0 (sym free ∙ ap (find nat_cmp rows) same ∙ there.1)))
+        (λ same. let there = row_where rows n c was in absurd (none-some there.0 (sym free ∙ ap (find nat_cmp rows) same ∙ there.1)))
         (λ far stays. ap (is_of c) stays ∙ was));
   }
 
@@ -128,24 +121,24 @@ module _ (rows rows' : List (ℕ × SessionRow)) (numbers numbers' : List (Clien
 
     named_over : (n : ℕ) (row : SessionRow) → find nat_cmp rows' n ≡ Some row → find client_cmp numbers'' row.client ≡ Some n
     named_over n row h = at_key nat_cmp number_key number (Some fresh) rows rows' puts n
-        (λ same. let row_is : fresh ≡ row = some_same fresh row (sym put_here ∙ ap (find nat_cmp rows') same ∙ h) in
+        (λ same. let row_is : fresh ≡ row = same_Some fresh row (sym put_here ∙ ap (find nat_cmp rows') same ∙ h) in
         ap (find client_cmp numbers'') (ap (λ (r : SessionRow). r.client) (sym row_is) ∙ its) ∙ still_named ∙ ap (λ (x : ℕ). Some x) same)
         (λ far stays. let had : find client_cmp numbers row.client ≡ Some n = indexed.are_named n row (sym stays ∙ h) in
         at_key client_cmp client_key old.client None numbers' numbers'' unnamed row.client
-        (λ same. absurd (far (some_same number n (sym had_old ∙ ap (find client_cmp numbers) same ∙ had))))
+        (λ same. absurd (far (same_Some number n (sym had_old ∙ ap (find client_cmp numbers) same ∙ had))))
         (λ away kept. at_key client_cmp client_key client (Some number) numbers numbers' named row.client
         (λ same. absurd (other_client row.client n had same))
         (λ away' kept'. kept ∙ kept' ∙ had)))
 
     open_over : (c : ClientId) (n : ℕ) → find client_cmp numbers'' c ≡ Some n → is_open_for rows' n c ≡ true
     open_over c n h = at_key client_cmp client_key old.client None numbers' numbers'' unnamed c
-        (λ same. absurd (none_some n (sym gone ∙ ap (find client_cmp numbers'') same ∙ h)))
+        (λ same. absurd (none-some n (sym gone ∙ ap (find client_cmp numbers'') same ∙ h)))
         (λ away kept. at_key client_cmp client_key client (Some number) numbers numbers' named c
         (λ same. its_session c n same (sym kept ∙ h))
         (λ away' kept'. let before : is_open_for rows n c ≡ true = indexed.are_open c n (sym kept' ∙ sym kept ∙ h) in
         at_key nat_cmp number_key number (Some fresh) rows rows' puts n
         (λ same. let there = row_where rows n c before in
-        let old_is : old ≡ there.0 = some_same old there.0 (sym was ∙ ap (find nat_cmp rows) same ∙ there.1) in
+        let old_is : old ≡ there.0 = same_Some old there.0 (sym was ∙ ap (find nat_cmp rows) same ∙ there.1) in
         absurd (away (ap (λ (r : SessionRow). r.client) old_is ∙ there.2)))
         (λ far stays. ap (is_of c) stays ∙ before)))
 
@@ -169,17 +162,17 @@ pub closed_some : (rows rows' : List (ℕ × SessionRow)) (numbers numbers' : Li
     → Sets nat_cmp session None rows rows' → Sets client_cmp row.client None numbers numbers' → IsIndexed rows' numbers'
 closed_some rows rows' numbers numbers' session row indexed there goes unnamed = record {
   are_named = λ n other h. at_key nat_cmp number_key session None rows rows' goes n
-      (λ same. absurd (none_some other (sym (set_here nat_cmp number_key session None rows rows' goes) ∙ ap (find nat_cmp rows') same ∙ h)))
+      (λ same. absurd (none-some other (sym (set_here nat_cmp number_key session None rows rows' goes) ∙ ap (find nat_cmp rows') same ∙ h)))
       (λ far stays. let had : find client_cmp numbers other.client ≡ Some n = indexed.are_named n other (sym stays ∙ h) in
       at_key client_cmp client_key row.client None numbers numbers' unnamed other.client
-      (λ same. absurd (far (some_same session n (sym (indexed.are_named session row there) ∙ ap (find client_cmp numbers) same ∙ had))))
+      (λ same. absurd (far (same_Some session n (sym (indexed.are_named session row there) ∙ ap (find client_cmp numbers) same ∙ had))))
       (λ away kept. kept ∙ had));
   are_open = λ c n h. at_key client_cmp client_key row.client None numbers numbers' unnamed c
-      (λ same. absurd (none_some n (sym (set_here client_cmp client_key row.client None numbers numbers' unnamed) ∙ ap (find client_cmp numbers') same ∙ h)))
+      (λ same. absurd (none-some n (sym (set_here client_cmp client_key row.client None numbers numbers' unnamed) ∙ ap (find client_cmp numbers') same ∙ h)))
       (λ away kept. let was : is_open_for rows n c ≡ true = indexed.are_open c n (sym kept ∙ h) in
       at_key nat_cmp number_key session None rows rows' goes n
       (λ same. let its = row_where rows n c was in
-      let row_is : row ≡ its.0 = some_same row its.0 (sym there ∙ ap (find nat_cmp rows) same ∙ its.1) in
+      let row_is : row ≡ its.0 = same_Some row its.0 (sym there ∙ ap (find nat_cmp rows) same ∙ its.1) in
       absurd (away (ap (λ (r : SessionRow). r.client) row_is ∙ its.2)))
       (λ far stays. ap (is_of c) stays ∙ was));
 }
@@ -200,13 +193,13 @@ pub kept_client : (rows rows' : List (ℕ × SessionRow)) (numbers : List (Clien
     → Sets nat_cmp session (Some next) rows rows' → IsIndexed rows' numbers
 kept_client rows rows' numbers session row next indexed there its puts = record {
   are_named = λ n other h. at_key nat_cmp number_key session (Some next) rows rows' puts n
-      (λ same. let next_is : next ≡ other = some_same next other (sym here ∙ ap (find nat_cmp rows') same ∙ h) in
+      (λ same. let next_is : next ≡ other = same_Some next other (sym here ∙ ap (find nat_cmp rows') same ∙ h) in
       ap (find client_cmp numbers) (ap (λ (r : SessionRow). r.client) (sym next_is) ∙ its) ∙ indexed.are_named session row there ∙ ap (λ (x : ℕ). Some x) same)
       (λ far stays. indexed.are_named n other (sym stays ∙ h));
   are_open = λ c n h. let was : is_open_for rows n c ≡ true = indexed.are_open c n h in
       at_key nat_cmp number_key session (Some next) rows rows' puts n
       (λ same. let owner = row_where rows n c was in
-      let row_is : row ≡ owner.0 = some_same row owner.0 (sym there ∙ ap (find nat_cmp rows) same ∙ owner.1) in
+      let row_is : row ≡ owner.0 = same_Some row owner.0 (sym there ∙ ap (find nat_cmp rows) same ∙ owner.1) in
       open_where rows' n next c (ap (find nat_cmp rows') (sym same) ∙ here) (its ∙ ap (λ (r : SessionRow). r.client) row_is ∙ owner.2))
       (λ far stays. ap (is_of c) stays ∙ was);
 } where

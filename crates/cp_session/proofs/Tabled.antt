@@ -1,5 +1,5 @@
 -- Tables of sessions: no client has two.
-use Rattle.std.proofs.Common.{◌≡◌, ℕ, Bool, true, false, List, [], ◌∷◌, ◌++◌, ◌&&◌, Some, None, refl, sym, ap, ◌∙◌, subst, append_assoc, cond}
+use Rattle.std.proofs.Common.{◌≡◌, ℕ, Bool, true, false, List, [], ◌∷◌, ◌++◌, Some, None, refl, sym, ap, ◌∙◌, subst, append_assoc, cond}
 use Rattle.std.specs.declared.cmp.Ordering.{Ordering}
 use Rattle.std.specs.declared.cmp.Ordering.TheVariants.{Less, Equal, Greater}
 use Rattle.std.specs.Ordering.{is_lt, is_eq, ordering_reverse}
@@ -7,6 +7,9 @@ use Rattle.std.specs.BTreeMap.{is_at}
 use Rattle.std.proofs.lemmas.Cmp.{nat_cmp_total}
 use Rattle.cp_base.specs.declared.identifier.ClientId.{ClientId}
 use Rattle.std.specs.Ordering.{nat_cmp}
+use Rattle.std.proofs.lemmas.Option.{none-some}
+use Rattle.std.proofs.lemmas.Bool.{and_parts}
+use Rattle.cp_base.proofs.Tests.{no_true}
 use Rattle.cp_group_state.specs.declared.rows.SessionRow.{SessionRow}
 use Rattle.cp_group_state.specs.Rows.{find, put}
 use Rattle.cp_group_state.specs.Sessions.{is_open_for}
@@ -28,12 +31,6 @@ named_open rows numbers indexed n client h = let its = row_where rows n client h
 pub one_session : (rows : List (ℕ × SessionRow)) (numbers : List (ClientId × ℕ)) → IsIndexed rows numbers → OneSession rows
 one_session rows numbers indexed a b client x y = some_same a b (sym (named_open rows numbers indexed a client x) ∙ named_open rows numbers indexed b client y)
 
-none_some : {X : Type 0} (x : X) → None ≡ Some x → ⊥
-none_some x e = cc
-
-no_true : true ≡ false → ⊥
-no_true e = cc
-
 -- a number above all that stand is new
 below_apart : (a k : ℕ) → is_lt (nat_cmp a k) ≡ true → is_at (nat_cmp k) a ≡ false
 below_apart a k h = by (nat_cmp a k) refl h where
@@ -42,20 +39,16 @@ below_apart a k h = by (nat_cmp a k) refl h where
   by Equal e l = absurd (no_true (sym l))
   by Greater e l = absurd (no_true (sym l))
 
-both : (a b : Bool) → (a && b) ≡ true → (a ≡ true) × (b ≡ true)
-both true b h = (refl, h)
-both false b h = absurd (no_true (sym h))
-
 pub above_none : (rows : List (ℕ × SessionRow)) (k : ℕ) → is_above nat_cmp rows k ≡ true → find nat_cmp rows k ≡ None
 above_none [] k h = refl
-above_none (e ∷ es) k h = let parts = both (is_lt (nat_cmp e.0 k)) (is_above nat_cmp es k) h in rw (below_apart e.0 k parts.0) (above_none es k parts.1)
+above_none (e ∷ es) k h = let parts = and_parts (is_lt (nat_cmp e.0 k)) (is_above nat_cmp es k) h in rw (below_apart e.0 k parts.0) (above_none es k parts.1)
 
 -- a row that is put behind all others is set under its number
 pub behind_sets : (rows rows' : List (ℕ × SessionRow)) (k : ℕ) (row : SessionRow) → is_above nat_cmp rows k ≡ true → rows' ≡ rows ++ (k, row) ∷ [] → Sets nat_cmp k (Some row) rows rows'
 behind_sets rows rows' k row above behind = subst (λ r. Sets nat_cmp k (Some row) rows r) (put_last nat_cmp nat_cmp_total rows k row above ∙ sym behind) (put_sets nat_cmp number_key rows k row)
 
 find_front : (rows tail : List (ℕ × SessionRow)) (n : ℕ) (row : SessionRow) → find nat_cmp rows n ≡ Some row → find nat_cmp (rows ++ tail) n ≡ Some row
-find_front [] tail n row h = absurd (none_some row h)
+find_front [] tail n row h = absurd (none-some row h)
 find_front (e ∷ es) tail n row h = by (is_at (nat_cmp n) e.0) h (find_front es tail n row) where
   by : (b : Bool) → cond b (Some e.1) (find nat_cmp es n) ≡ Some row → (find nat_cmp es n ≡ Some row → find nat_cmp (es ++ tail) n ≡ Some row) → cond b (Some e.1) (find nat_cmp (es ++ tail) n) ≡ Some row
   by true h rest = h
@@ -65,7 +58,7 @@ find_behind : (rows tail : List (ℕ × SessionRow)) (n : ℕ) → find nat_cmp 
 find_behind [] tail n h = refl
 find_behind (e ∷ es) tail n h = by (is_at (nat_cmp n) e.0) h (find_behind es tail n) where
   by : (b : Bool) → cond b (Some e.1) (find nat_cmp es n) ≡ None → (find nat_cmp es n ≡ None → find nat_cmp (es ++ tail) n ≡ find nat_cmp tail n) → cond b (Some e.1) (find nat_cmp (es ++ tail) n) ≡ find nat_cmp tail n
-  by true h rest = absurd (none_some e.1 (sym h))
+  by true h rest = absurd (none-some e.1 (sym h))
   by false h rest = rest h
 
 -- no table has a second session of a client
@@ -78,7 +71,7 @@ client_unfit rows numbers k n row indexed had rest table =
     let here : find nat_cmp ((k, row) ∷ rest) k ≡ Some row = rw (number_key.here k) refl in
     let second = open_where (rows ++ (k, row) ∷ rest) k row row.client (find_behind rows ((k, row) ∷ rest) k free ∙ here) refl in
     let same : n ≡ k = table.one n k row.client first second in
-    none_some its.0 (sym free ∙ ap (find nat_cmp rows) (sym same) ∙ its.1)
+    none-some its.0 (sym free ∙ ap (find nat_cmp rows) (sym same) ∙ its.1)
 
 -- nor a row whose number isn't above those in front
 pub order_unfit : (rows : List (ℕ × SessionRow)) (k : ℕ) (row : SessionRow) → is_above nat_cmp rows k ≡ false → (rest : List (ℕ × SessionRow)) → IsTable (rows ++ (k, row) ∷ rest) → ⊥

@@ -1,5 +1,5 @@
 -- Rows by rising keys are those of which each is behind the one before it.
-use Rattle.std.proofs.Common.{◌≡◌, ℕ, suc, ◌+◌, ◌-◌, true, false, List, [], ◌∷◌, ◌++◌, length, Option, Some, refl, ap, sym, ◌∙◌, subst, append_assoc, arith}
+use Rattle.std.proofs.Common.{◌≡◌, ℕ, suc, ◌+◌, ◌-◌, true, List, [], ◌∷◌, ◌++◌, length, Option, Some, refl, ap, sym, ◌∙◌, subst, append_assoc, arith}
 use Rattle.std.specs.Prelude.{slice_get}
 use Rattle.std.proofs.lemmas.List.{append-nil}
 use Rattle.std.specs.List.{AllByRecursion}
@@ -13,9 +13,6 @@ use Rattle.cp_grammar.specs.Grammar.{Grammar}
 use Rattle.cp_grammar.specs.Lists.{ItemsFit}
 use Rattle.cp_group_state.specs.Invariants.{IsRising}
 use Rattle.cp_state_bytes.specs.Keys.{last_of, follows, is_behind}
-
-no_true : true ≡ false → ⊥
-no_true e = cc
 
 pub is_less : (o : Ordering) → is_lt o ≡ true → o ≡ Less
 is_less Less h = refl

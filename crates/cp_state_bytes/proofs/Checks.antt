@@ -6,13 +6,14 @@ use Rattle.std.specs.Ordering.{nat_cmp, int_eq}
 use Rattle.std.proofs.lemmas.Int.{ints}
 use Rattle.std.proofs.lemmas.List.{append-nil, nil_from_length}
 use Rattle.std.proofs.lemmas.Slice.Eq.{bytes_eq-Decides}
+use Rattle.cp_base.proofs.Tests.{no_true}
 use Rattle.cp_group_state.specs.declared.rows.SessionRow.{SessionRow}
 use Rattle.cp_group_state.specs.declared.rows.SemaphoreRow.{SemaphoreRow}
 use Rattle.cp_group_state.specs.declared.rows.Waiter.{Waiter}
 use Rattle.cp_group_state.specs.Rows.{Object, find, most, put, name_cmp}
 use Rattle.cp_group_state.specs.Semaphores.{Semaphores, is_held}
 use Rattle.cp_group_state.specs.Invariants.{IsRising, CallsDiffer, held_by_all, held_of}
-use Rattle.cp_group_state.proofs.Keyed.{no_true, name_key, is_at_apart, find-put_same, find-put_other}
+use Rattle.cp_group_state.proofs.Keyed.{name_key, is_at_apart, find-put_same, find-put_other}
 use Rattle.cp_session.specs.Tables.{IsTable, MakesTable}
 use Rattle.cp_group_ranges.specs.Rows.{IsPermits, SemaphoreFits}
 use Rattle.cp_state_bytes.specs.Lists.{Holdings}

@@ -1,5 +1,5 @@
 -- The rules as tests, and as what holds of a sound state.
-use Rattle.std.proofs.Common.{◌≡◌, ℕ, ◌+◌, Bool, true, false, not, ◌&&◌, List, [], ◌∷◌, Option, Some, None, refl, ap, sym, ◌∙◌, subst, cond, arith, is_some}
+use Rattle.std.proofs.Common.{◌≡◌, ℕ, ◌+◌, Bool, true, false, not, List, [], ◌∷◌, Option, Some, None, refl, ap, sym, ◌∙◌, subst, cond, arith, is_some}
 use Rattle.std.specs.Prelude.{ℤ, pos, ◌+ℤ◌, ◌||◌, bytes_eq}
 use Rattle.std.specs.List.{AllByRecursion, list_all, list_any}
 use Rattle.std.specs.List.Sorted.{IsStrictlySortedBy}
@@ -13,9 +13,11 @@ use Rattle.std.proofs.lemmas.Int.{ints}
 use Rattle.std.proofs.lemmas.Slice.Eq.{bytes_eq-Decides}
 use Rattle.std.proofs.lemmas.List.Elements.{All-head, All-tail}
 use Rattle.std.specs.BTreeMap.{is_at}
+use Rattle.std.proofs.lemmas.Bool.{and_parts, and_from, not-true}
 use Rattle.cp_op_values.specs.declared.kind.Kind.{Kind}
 use Rattle.cp_op_values.specs.declared.kind.Kind.TheVariants as kind
 use Rattle.cp_base.specs.declared.identifier.ClientId.{ClientId}
+use Rattle.cp_base.proofs.Tests.{no_true}
 use Rattle.cp_group_state.specs.declared.rows.SessionRow.{SessionRow}
 use Rattle.cp_group_state.specs.declared.rows.LockRow.{LockRow}
 use Rattle.cp_group_state.specs.declared.rows.SemaphoreRow.{SemaphoreRow}
@@ -25,7 +27,7 @@ use Rattle.cp_group_state.specs.Waiters.{same_client, stands}
 use Rattle.cp_group_state.specs.Sessions.{is_of, is_open_for}
 use Rattle.cp_group_state.specs.Semaphores.{Semaphores, is_held}
 use Rattle.cp_group_state.specs.Invariants.{IsRising, OneSession, CallsDiffer, IsBalanced, IsBalancedAt, HoldingsStand, IsHeldOrFree, LocksWell, held_by_all, held_of}
-use Rattle.cp_group_state.proofs.Keyed.{IsKey, no_true, number_key, object_key, same-client, client-itself, equal_is}
+use Rattle.cp_group_state.proofs.Keyed.{IsKey, number_key, object_key, same-client, client-itself, equal_is}
 use Rattle.cp_group_state.proofs.Rising.{less-none}
 use Rattle.cp_group_state.proofs.Ordered.{object_total, holding_total, holding_key}
 use Rattle.cp_group_state.specs.Locks.{is_free}
@@ -37,22 +39,11 @@ use Rattle.cp_state_bytes.specs.Lists.{Holdings}
 use Rattle.cp_state_bytes.proofs.Facts.{LockFields}
 use Rattle.cp_state_bytes.specs.Rules.{clients_differ, calls_differ, are_balanced, holdings_stand, waiters_stand}
 
-pub both : (a b : Bool) → (a && b) ≡ true → (a ≡ true) × (b ≡ true)
-both true b h = (refl, h)
-both false b h = absurd (no_true (sym h))
-
-pub and : (a b : Bool) → a ≡ true → b ≡ true → (a && b) ≡ true
-and a b h k = rw (h, k) refl
-
-not_true : (b : Bool) → not b ≡ true → b ≡ false
-not_true true h = absurd (no_true (sym h))
-not_true false h = refl
-
 -- ---- no call has two waiters
 
 pub calls_are : (ws : List Waiter) → calls_differ ws ≡ true → CallsDiffer ws
 calls_are [] h = tt
-calls_are (w ∷ ws) h = let two = both (not (stands w.call ws)) (calls_differ ws) h in (not_true (stands w.call ws) two.0, calls_are ws two.1)
+calls_are (w ∷ ws) h = let two = and_parts (not (stands w.call ws)) (calls_differ ws) h in (not-true (stands w.call ws) two.0, calls_are ws two.1)
 
 pub calls_pass : (ws : List Waiter) → CallsDiffer ws → calls_differ ws ≡ true
 calls_pass [] h = refl
@@ -71,12 +62,12 @@ passes false found h = refl
 pub waiters_are : (rows : List (Object × SemaphoreRow)) (ws : List Waiter) → waiters_stand rows ws ≡ true → AllByRecursion (HasSemaphore rows) ws
 waiters_are rows [] h = tt
 waiters_are rows (w ∷ ws) h =
-    let two = both (not (is_semaphore w.kind) || is_some (find object_cmp rows (w.name, w.kind))) (waiters_stand rows ws) h in
+    let two = and_parts (not (is_semaphore w.kind) || is_some (find object_cmp rows (w.name, w.kind))) (waiters_stand rows ws) h in
     (λ is. waits (is_semaphore w.kind) (is_some (find object_cmp rows (w.name, w.kind))) two.0 is, waiters_are rows ws two.1)
 
 pub waiters_pass : (rows : List (Object × SemaphoreRow)) (ws : List Waiter) → AllByRecursion (HasSemaphore rows) ws → waiters_stand rows ws ≡ true
 waiters_pass rows [] h = refl
-waiters_pass rows (w ∷ ws) h = and (not (is_semaphore w.kind) || is_some (find object_cmp rows (w.name, w.kind))) (waiters_stand rows ws) (passes (is_semaphore w.kind) (is_some (find object_cmp rows (w.name, w.kind))) h.0) (waiters_pass rows ws h.1)
+waiters_pass rows (w ∷ ws) h = and_from (not (is_semaphore w.kind) || is_some (find object_cmp rows (w.name, w.kind))) (waiters_stand rows ws) (passes (is_semaphore w.kind) (is_some (find object_cmp rows (w.name, w.kind))) h.0) (waiters_pass rows ws h.1)
 
 -- ---- no client has two sessions
 
@@ -102,10 +93,10 @@ open_row (e ∷ es) n client h = by (is_at (nat_cmp n) e.0) h (λ k. open_row es
 
 pub sessions_are : (rows : List (ℕ × SessionRow)) → clients_differ rows ≡ true → OneSession rows
 sessions_are [] h a b client x y = absurd (no_true (sym x))
-sessions_are (e ∷ es) h a b client x y = by (is_at (nat_cmp a) e.0) (is_at (nat_cmp b) e.0) refl refl x y (sessions_are es (both (not (is_client e.1.client es)) (clients_differ es) h).1 a b client)
+sessions_are (e ∷ es) h a b client x y = by (is_at (nat_cmp a) e.0) (is_at (nat_cmp b) e.0) refl refl x y (sessions_are es (and_parts (not (is_client e.1.client es)) (clients_differ es) h).1 a b client)
   where
     alone : is_client e.1.client es ≡ false
-    alone = not_true (is_client e.1.client es) (both (not (is_client e.1.client es)) (clients_differ es) h).0
+    alone = not-true (is_client e.1.client es) (and_parts (not (is_client e.1.client es)) (clients_differ es) h).0
 
     -- the client's other session can't be among the rest
     never : (n : ℕ) → same_client e.1.client client ≡ true → is_open_for es n client ≡ true → ⊥
@@ -147,7 +138,7 @@ row_open (f ∷ fs) client rising h = by (same_client client f.1.client) refl h 
 pub sessions_pass : (rows : List (ℕ × SessionRow)) → IsRising nat_cmp rows → OneSession rows → clients_differ rows ≡ true
 unfolding IsStrictlySortedBy
 sessions_pass [] rising one = refl
-sessions_pass (e ∷ es) rising one = and (not (is_client e.1.client es)) (clients_differ es) (by (is_client e.1.client es) refl)
+sessions_pass (e ∷ es) rising one = and_from (not (is_client e.1.client es)) (clients_differ es) (by (is_client e.1.client es) refl)
     (sessions_pass es rising.1 (λ a b client x y. one a b client (lifted e es a client rising.0 x) (lifted e es b client rising.0 y)))
   where
     first : is_open_for (e ∷ es) e.0 e.1.client ≡ true
@@ -187,10 +178,10 @@ held_sem kind.Map h = absurd (no_true (sym h))
 
 none_held : (rows : List (Object × SemaphoreRow)) (name : List ℕ) (holdings : Holdings) → find object_cmp rows (name, kind.Sem) ≡ None → list_all (λ e. is_some (find object_cmp rows (e.0.1, kind.Sem))) holdings ≡ true → held_by_all name holdings ≡ 0
 none_held rows name [] none h = refl
-none_held rows name (e ∷ es) none h = by (bytes_eq name e.0.1) refl (none_held rows name es none (both (is_some (find object_cmp rows (e.0.1, kind.Sem))) (list_all (λ x. is_some (find object_cmp rows (x.0.1, kind.Sem))) es) h).1)
+none_held rows name (e ∷ es) none h = by (bytes_eq name e.0.1) refl (none_held rows name es none (and_parts (is_some (find object_cmp rows (e.0.1, kind.Sem))) (list_all (λ x. is_some (find object_cmp rows (x.0.1, kind.Sem))) es) h).1)
   where
     stands : is_some (find object_cmp rows (e.0.1, kind.Sem)) ≡ true
-    stands = (both (is_some (find object_cmp rows (e.0.1, kind.Sem))) (list_all (λ x. is_some (find object_cmp rows (x.0.1, kind.Sem))) es) h).0
+    stands = (and_parts (is_some (find object_cmp rows (e.0.1, kind.Sem))) (list_all (λ x. is_some (find object_cmp rows (x.0.1, kind.Sem))) es) h).0
 
     by : (c : Bool) → bytes_eq name e.0.1 ≡ c → held_by_all name es ≡ 0 → cond c e.1 0 + held_by_all name es ≡ 0
     by true its rest = absurd (some_true (find object_cmp rows (e.0.1, kind.Sem)) (subst (λ (n : List ℕ). find object_cmp rows (n, kind.Sem) ≡ None) ((bytes_eq-Decides name e.0.1).0 its) none) stands)
@@ -202,7 +193,7 @@ balanced_at [] holdings key h none = none refl
 balanced_at (e ∷ es) holdings key h none = by (object_cmp key e.0) refl none (balanced_at es holdings key two.1)
   where
     two : (int_eq e.1.total (e.1.available +ℤ pos (held_of e.0 holdings)) ≡ true) × (list_all (λ x. int_eq x.1.total (x.1.available +ℤ pos (held_of x.0 holdings))) es ≡ true)
-    two = both (int_eq e.1.total (e.1.available +ℤ pos (held_of e.0 holdings))) (list_all (λ x. int_eq x.1.total (x.1.available +ℤ pos (held_of x.0 holdings))) es) h
+    two = and_parts (int_eq e.1.total (e.1.available +ℤ pos (held_of e.0 holdings))) (list_all (λ x. int_eq x.1.total (x.1.available +ℤ pos (held_of x.0 holdings))) es) h
 
     here : key ≡ e.0 → e.1.total ≡ e.1.available +ℤ pos (held_of key holdings)
     here same = subst (λ (k : Object). e.1.total ≡ e.1.available +ℤ pos (held_of k holdings)) (sym same) (same_int e.1.total (e.1.available +ℤ pos (held_of e.0 holdings)) two.0)
@@ -236,14 +227,14 @@ balanced_each : (s : Semaphores) (rows : List (Object × SemaphoreRow)) → IsBa
 balanced_each s [] b all = refl
 balanced_each s (e ∷ es) b all =
     let its : e.1.total ≡ e.1.available +ℤ pos (held_of e.0 s.holdings) = subst (λ (o : Option SemaphoreRow). IsBalancedAt o (held_of e.0 s.holdings)) all.0 (b e.0) in
-    and (int_eq e.1.total (e.1.available +ℤ pos (held_of e.0 s.holdings))) (list_all (λ x. int_eq x.1.total (x.1.available +ℤ pos (held_of x.0 s.holdings))) es) (is_same_int e.1.total (e.1.available +ℤ pos (held_of e.0 s.holdings)) its) (balanced_each s es b all.1)
+    and_from (int_eq e.1.total (e.1.available +ℤ pos (held_of e.0 s.holdings))) (list_all (λ x. int_eq x.1.total (x.1.available +ℤ pos (held_of x.0 s.holdings))) es) (is_same_int e.1.total (e.1.available +ℤ pos (held_of e.0 s.holdings)) its) (balanced_each s es b all.1)
 
 pub balanced_pass : (s : Semaphores) → IsRising object_cmp s.rows → IsBalanced s → are_balanced s ≡ true
 balanced_pass s rising b = balanced_each s s.rows b (each_found object_cmp object_key object_total s.rows rising)
 
 holdings_each : (s : Semaphores) (holdings : Holdings) → HoldingsStand s → AllByRecursion (λ (e : (ℕ × List ℕ) × ℕ). find holding_cmp s.holdings e.0 ≡ Some e.1) holdings → list_all (λ e. is_some (find object_cmp s.rows (e.0.1, kind.Sem))) holdings ≡ true
 holdings_each s [] h all = refl
-holdings_each s (e ∷ es) h all = and (is_some (find object_cmp s.rows (e.0.1, kind.Sem))) (list_all (λ x. is_some (find object_cmp s.rows (x.0.1, kind.Sem))) es) (h e.0.0 e.0.1 e.1 all.0).1 (holdings_each s es h all.1)
+holdings_each s (e ∷ es) h all = and_from (is_some (find object_cmp s.rows (e.0.1, kind.Sem))) (list_all (λ x. is_some (find object_cmp s.rows (x.0.1, kind.Sem))) es) (h e.0.0 e.0.1 e.1 all.0).1 (holdings_each s es h all.1)
 
 pub holdings_pass : (s : Semaphores) → IsRising holding_cmp s.holdings → HoldingsStand s → holdings_stand s ≡ true
 holdings_pass s rising h = holdings_each s s.holdings h (each_found holding_cmp holding_key holding_total s.holdings rising)
@@ -266,4 +257,4 @@ lock_passes row h = by (is_free row) refl
 
 pub locks_pass : (rows : Named LockRow) → AllByRecursion LockFits rows → are_whole rows ≡ true
 locks_pass [] all = refl
-locks_pass (e ∷ es) all = and (is_whole e.1) (are_whole es) (lock_passes e.1 all.0.held_or_free) (locks_pass es all.1)
+locks_pass (e ∷ es) all = and_from (is_whole e.1) (are_whole es) (lock_passes e.1 all.0.held_or_free) (locks_pass es all.1)

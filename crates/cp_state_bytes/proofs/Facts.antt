@@ -1,6 +1,6 @@
 -- What a row's spelling says of it: each field is within its range, and the key is behind the row before it.
-use Rattle.std.proofs.Common.{◌≡◌, ℕ, ◌+◌, ◌-◌, ◌^◌, ◌≤◌, Bool, true, false, List, [], ◌∷◌, ◌++◌, length, Option, Some, None, refl, arith}
-use Rattle.std.specs.Prelude.{ℤ, pos, neg_ℤ, ◌≤ℤ◌, ◌&&◌, int_le}
+use Rattle.std.proofs.Common.{◌≡◌, ℕ, ◌+◌, ◌-◌, ◌^◌, ◌≤◌, Bool, true, List, [], ◌∷◌, ◌++◌, length, Option, Some, None, refl, arith}
+use Rattle.std.specs.Prelude.{ℤ, pos, neg_ℤ, ◌≤ℤ◌, int_le}
 use Rattle.std.proofs.lemmas.Int.{ints}
 use Rattle.std.specs.List.{sum_by}
 use Rattle.std.proofs.lemmas.List.Sums.{sum-map, sum_by-append, sum_by-cons}
@@ -8,6 +8,7 @@ use Rattle.std.specs.List.{AllByRecursion}
 use Rattle.std.specs.declared.cmp.Ordering.{Ordering}
 use Rattle.std.specs.declared.cmp.Ordering.TheVariants.{Less, Equal, Greater}
 use Rattle.std.specs.Ordering.{nat_cmp, is_lt, is_le, ordering_then}
+use Rattle.std.proofs.lemmas.Bool.{and_parts}
 use Rattle.cp_base.specs.declared.identifier.Invocation.{Invocation}
 use Rattle.cp_grammar.specs.Fields.{number, optional}
 use Rattle.cp_grammar.specs.Lists.{ItemsFit, each}
@@ -38,10 +39,6 @@ use Rattle.cp_state_bytes.specs.Rows.{name_behind, object_behind, session_row, l
 -- what holds of every list of rows
 abbrev pub Any : {A : Type 0} → A → Type 0
 Any x = Unit {0}
-
-both : (a b : Bool) → (a && b) ≡ true → (a ≡ true) × (b ≡ true)
-both true b h = (refl, h)
-both false b h = absurd cc
 
 -- ---- sessions
 
@@ -81,7 +78,7 @@ at_least_le a b h = grind (arith, ints)
 permits_facts : (z : ℤ) → rows.signed_permits.Fits z → IsPermits z
 unfolding rows.signed_permits
 permits_facts z h =
-    let two = both (int_le (neg_ℤ (pos (2 ^ 31))) z) (int_le z (pos (2 ^ 31 - 1))) h.1 in
+    let two = and_parts (int_le (neg_ℤ (pos (2 ^ 31))) z) (int_le z (pos (2 ^ 31 - 1))) h.1 in
     record { least = at_least_le (neg_ℤ (pos (2 ^ 31))) z two.0; most = at_least_le z (pos (2 ^ 31 - 1)) two.1 }
 
 pub object_fits : {X : Type 0} (kinds : Kind → Bool) (before : List (Object × X)) (o : Object) → name.Fits o.0 → kinds o.1 ≡ true → is_behind object_cmp before o ≡ true → (object_behind kinds before).Fits o

@@ -1,6 +1,7 @@
 -- The states that have a spelling are the sound ones.
 use Rattle.std.proofs.Common.{◌≡◌, ℕ, ◌-◌, ◌^◌, ◌≤◌, true, List, length, Result, Ok, Err, refl, ap, subst, arith}
 use Rattle.std.specs.List.{AllByRecursion}
+use Rattle.std.proofs.lemmas.Bool.{and_parts, and_from}
 use Rattle.cp_codec.specs.Exact.{IsByte}
 use Rattle.cp_grammar.specs.Grammar.{whole}
 use Rattle.cp_grammar.specs.Laws.{whole_again, whole_takes}
@@ -15,18 +16,18 @@ use Rattle.cp_state_bytes.proofs.Listed.{session_list_fits, session_list_facts, 
 use Rattle.cp_state_bytes.specs.Rules.{clients_differ, calls_differ, are_balanced, holdings_stand, waiters_stand, is_consistent}
 use Rattle.cp_state_bytes.specs.States.{owners, objects, calls, lists_in, state_in, any_version, unversioned, spelled, restored, HasCounts}
 use Rattle.cp_state_bytes.proofs.StateLaws.{any_version_lawful}
-use Rattle.cp_state_bytes.proofs.Consistent.{both, and, calls_are, calls_pass, waiters_are, waiters_pass, sessions_are, sessions_pass, balanced_are, balanced_pass, holdings_pass, locks_are, locks_pass}
+use Rattle.cp_state_bytes.proofs.Consistent.{calls_are, calls_pass, waiters_are, waiters_pass, sessions_are, sessions_pass, balanced_are, balanced_pass, holdings_pass, locks_are, locks_pass}
 
 -- ---- a sound state has a spelling
 
 consistent : (s : GroupState) → IsSound s → is_consistent s ≡ true
 unfolding is_consistent
 consistent s h =
-    and (are_whole s.locks) _ (locks_pass s.locks h.fits.locks)
-    (and (clients_differ s.sessions) _ (sessions_pass s.sessions h.ordered.sessions h.one_session)
-    (and (calls_differ s.waiters) _ (calls_pass s.waiters h.calls_differ)
-    (and (are_balanced s.semaphores) _ (balanced_pass s.semaphores h.ordered.semaphores h.balanced)
-    (and (holdings_stand s.semaphores) _ (holdings_pass s.semaphores h.ordered.holdings (holdings-stand s h))
+    and_from (are_whole s.locks) _ (locks_pass s.locks h.fits.locks)
+    (and_from (clients_differ s.sessions) _ (sessions_pass s.sessions h.ordered.sessions h.one_session)
+    (and_from (calls_differ s.waiters) _ (calls_pass s.waiters h.calls_differ)
+    (and_from (are_balanced s.semaphores) _ (balanced_pass s.semaphores h.ordered.semaphores h.balanced)
+    (and_from (holdings_stand s.semaphores) _ (holdings_pass s.semaphores h.ordered.holdings (holdings-stand s h))
     (waiters_pass s.semaphores.rows s.waiters h.waiters_stand)))))
 
 pub state_fits : (s : GroupState) → IsSound s → HasCounts s → (state_in versions.Third).Fits s
@@ -98,11 +99,11 @@ fits_sound version s h =
     let waiters = waiter_list_facts s.waiters h.0.0.1.1.0 in
     let memory = memory_list_facts version s.memory h.0.0.1.1.1.0 in
     let maps = pair_list_facts version s.maps h.0.0.1.1.1.1 in
-    let whole_locks = both (are_whole s.locks) _ h.1 in
-    let clients = both (clients_differ s.sessions) _ whole_locks.1 in
-    let callers = both (calls_differ s.waiters) _ clients.1 in
-    let balance = both (are_balanced s.semaphores) _ callers.1 in
-    let stand = both (holdings_stand s.semaphores) _ balance.1 in
+    let whole_locks = and_parts (are_whole s.locks) _ h.1 in
+    let clients = and_parts (clients_differ s.sessions) _ whole_locks.1 in
+    let callers = and_parts (calls_differ s.waiters) _ clients.1 in
+    let balance = and_parts (are_balanced s.semaphores) _ callers.1 in
+    let stand = and_parts (holdings_stand s.semaphores) _ balance.1 in
     record {
       fits = record {
         destroyed_group = h.0.0.0.0;

@@ -7,9 +7,9 @@ mod run;
 mod running;
 #[cfg(test)]
 mod schedule_tests;
+mod status;
 #[cfg(test)]
 mod tests;
-mod status;
 
 use cp_base::NoMemory;
 use cp_disk::MemoryDisk;

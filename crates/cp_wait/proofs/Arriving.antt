@@ -4,10 +4,10 @@ use Rattle.std.specs.Prelude.{if◌then◌else◌}
 use Rattle.std.specs.List.{filter}
 use Rattle.std.proofs.lemmas.List.Elements.{filter-append}
 use Rattle.cp_base.specs.declared.identifier.Invocation.{Invocation}
+use Rattle.cp_base.proofs.Tests.{no_true}
 use Rattle.cp_group_state.specs.Waiters.{same_call, stands}
 use Rattle.cp_group_state.specs.Invariants.{CallsDiffer}
 use Rattle.cp_group_state.specs.declared.rows.Waiter.{Waiter}
-use Rattle.cp_group_state.proofs.Keyed.{no_true}
 use Rattle.cp_group_state.proofs.Latches.{same_call_itself}
 use Rattle.cp_group_state.proofs.Once.{same-call}
 use Rattle.cp_group_state.proofs.Single.{differ-push}

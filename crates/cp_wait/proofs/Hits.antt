@@ -9,17 +9,12 @@ use Rattle.std.proofs.lemmas.Bool.Decides.{nat_tests}
 use Rattle.std.proofs.lemmas.Slice.Eq.{bytes_eq-Decides}
 use Rattle.cp_base.specs.declared.identifier.ClientId.{ClientId}
 use Rattle.cp_base.specs.declared.identifier.ThreadNo.{ThreadNo}
+use Rattle.cp_base.proofs.Tests.{alike}
 use Rattle.cp_op_values.specs.declared.kind.Kind.{Kind}
 use Rattle.cp_group_state.specs.Rows.{kind_number, name_cmp}
 use Rattle.cp_group_state.specs.Waiters.{same_client}
 use Rattle.cp_group_state.proofs.Keyed.{equal_is, name_key}
 use Rattle.cp_wait.specs.Indexes.{kind_cmp, thread_cmp}
-
-alike : (a b : Bool) → (a ≡ true → b ≡ true) → (b ≡ true → a ≡ true) → a ≡ b
-alike true true f g = refl
-alike false false f g = refl
-alike true false f g = sym (f refl)
-alike false true f g = g refl
 
 then_both : (o p : Ordering) → is_eq (ordering_then o p) ≡ (is_eq o && is_eq p)
 then_both Less p = refl

@@ -5,6 +5,7 @@ use Rattle.std.specs.List.{filter, list_any}
 use Rattle.std.proofs.lemmas.List.{take_more}
 use Rattle.std.specs.Map.{lookup, remove_entry, values_of}
 use Rattle.cp_base.specs.declared.identifier.Invocation.{Invocation}
+use Rattle.cp_base.proofs.Tests.{no_true}
 use Rattle.cp_answers.specs.declared.answer.Answer.{Answer}
 use Rattle.cp_group_state.specs.Rows.{Object, most}
 use Rattle.cp_group_state.specs.Waiters.{Ended, same_client, same_call, stands, still_waiting, answered_by, first}
@@ -13,7 +14,6 @@ use Rattle.cp_group_state.specs.Sessions.{is_among}
 use Rattle.cp_group_state.specs.Apply.{is_older}
 use Rattle.cp_group_state.specs.Invariants.{CallsDiffer}
 use Rattle.cp_group_state.specs.declared.rows.Waiter.{Waiter}
-use Rattle.cp_group_state.proofs.Keyed.{no_true}
 use Rattle.cp_group_state.proofs.Latches.{same_call_itself}
 use Rattle.cp_group_state.proofs.Once.{same-call}
 use Rattle.cp_group_state.proofs.Single.{differ-filter, differ-push}

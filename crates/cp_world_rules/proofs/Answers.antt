@@ -9,6 +9,7 @@ use Rattle.cp_base.specs.declared.identifier.ClientNo.{ClientNo}
 use Rattle.cp_base.specs.declared.identifier.GroupId.{GroupId}
 use Rattle.cp_base.specs.declared.identifier.Invocation.{Invocation}
 use Rattle.cp_base.specs.declared.identifier.ThreadNo.{ThreadNo}
+use Rattle.cp_base.proofs.Tests.{same_number, same_some, none_some}
 use Rattle.cp_answers.specs.declared.answer.Answer.{Answer}
 use Rattle.cp_answers.specs.declared.answer.Answer.TheVariants as answer
 use Rattle.cp_answers.specs.declared.ended_by.EndedBy.TheVariants as ended_by
@@ -53,15 +54,6 @@ use Rattle.cp_world_rules.proofs.Ledgers.{Extends, Fenced, HoldOk, Knows, Ledger
 use Rattle.cp_world_rules.proofs.Good.{AnsweredBy, Fits, Given, Good}
 use Rattle.cp_world_rules.proofs.Does.{DidOk}
 use Rattle.cp_world_rules.proofs.Clients.{Midway, ask-midway, did, go_on-fine, idle-midway, itself-fine, midway-now, needing-returns, records-midway, with_step}
-
-test_same : (a b : ℕ) → (a == b) ≡ true → a ≡ b
-test_same a b h = grind (arith, nat_tests)
-
-some-same : {X : Type 0} {x y : X} → Some x ≡ Some y → x ≡ y
-some-same e = cc
-
-none-some : {X : Type 0} {x : X} → None ≡ Some x → ⊥
-none-some e = cc
 
 -- the client's sessions
 module _ (w : World) (me : ClientNo) where
@@ -151,7 +143,7 @@ module _ (plan : Plan) (w : World) (request : Invocation) (a : Answer) (good : G
   known-op o k = let e = given.answered.entered in sym e.op_is ∙ (same-op e.request k.0 e.begun k.1 (e.mine ∙ sym k.2) ∙ k.3) where
     same-op : (r q : Request) → Contains w.requests r → Contains w.requests q → r.call ≡ q.call → r.op ≡ q.op
     same-op r q x y same = let i = get-some w.requests r x in let j = get-some w.requests q y in
-        let p : i.0 ≡ j.0 = good.distinct i.0 j.0 r q i.1 j.1 same in ap (λ (z : Request). z.op) (some-same (sym i.1 ∙ (ap (slice_get w.requests) p ∙ j.1)))
+        let p : i.0 ≡ j.0 = good.distinct i.0 j.0 r q i.1 j.1 same in ap (λ (z : Request). z.op) (same_some (sym i.1 ∙ (ap (slice_get w.requests) p ∙ j.1)))
 
   abbrev pub key_of : Pending → List ℕ → LockKey
   key_of now name = (request.thread.0, now.group.0, name)
@@ -296,7 +288,7 @@ module _ (plan : Plan) (w : World) (request : Invocation) (a : Answer) (good : G
     purpose_ok = subst (λ call. PurposeOk plan (ledger_of w) (client_of request) call now.task now.purpose) (same-request (thread_at c request.thread).number same) ok.for_purpose
 
   pub answer-ok : DidOk plan w (client_of request) (answer_client plan (replay_id (client_of request)) request a (client_at w (client_of request)))
-  answer-ok = cases (DidOk plan w (client_of request)) ((thread_at c request.thread).number == request.number) _ _ (λ e. pending-ok (thread_at c request.thread).pending refl (test_same (thread_at c request.thread).number request.number e)) (λ e. nothing-ok)
+  answer-ok = cases (DidOk plan w (client_of request)) ((thread_at c request.thread).number == request.number) _ _ (λ e. pending-ok (thread_at c request.thread).pending refl (same_number (thread_at c request.thread).number request.number e)) (λ e. nothing-ok)
 
 -- ticks
 test_not_less : (a b : ℕ) → not (nat_lt a b) ≡ true → b ≤ a
@@ -314,8 +306,8 @@ module _ (plan : Plan) (w : World) (me : ClientNo) (moved : Moved) (there : Cont
     pub returns : ReturnsTold d.returns
 
   late-wish : (k d : ℕ) (x : Option ℕ) → deadline_of k x ≡ Some d → (ms : ℕ) × (x ≡ Some ms) × (k + patience + ms ≡ d)
-  late-wish k d None e = absurd (none-some e)
-  late-wish k d (Some ms) e = (ms, refl, some-same e)
+  late-wish k d None e = absurd (none_some e)
+  late-wish k d (Some ms) e = (ms, refl, same_some e)
 
   late-told : (c : Client) → Midway plan w me c [] [] → c.clock ≡ moved.clock → (t : ThreadNo) (now : Pending) → (thread_at c t).pending ≡ Some now → is_past c.clock now.deadline ≡ true
       → ToldBy (ledger_of w) w.shown.number me (record { thread = t; number = (thread_at c t).number; ending = ending.Answered (answer.Indeterminate ended_by.Deadline) })
@@ -369,7 +361,7 @@ module _ (plan : Plan) (w : World) (me : ClientNo) (moved : Moved) (there : Cont
   beat-fine asked g own c opened m = let b : Client = record c { sessions = put nat_cmp c.sessions g (record { id = own.id; beat = c.clock }) } in record {
     client = ask-midway plan w me asked [] own_thread (record { group = record { 0 = g }; task = task.Beats own.id; purpose = purpose.ForItself own.id; deadline = None }) (op.Session (session.Beat own.id)) (record c { sessions = put nat_cmp c.sessions g (record { id = own.id; beat = c.clock }) })
         (records-midway plan w me asked [] c (put nat_cmp c.sessions g (record { id = own.id; beat = c.clock })) c.holds (rows-put nat_cmp number_key (λ k (x : OwnSession). OpenedIn w.history x.id (replay_id me)) c.sessions g (record { id = own.id; beat = c.clock }) opened m.client.own) m.client.held m)
-        (record { of_task = refl; for_purpose = tt }) (λ s used. subst (λ x. OpenedIn w.history x (replay_id me)) (some-same used) opened, tt)
+        (record { of_task = refl; for_purpose = tt }) (λ s used. subst (λ x. OpenedIn w.history x (replay_id me)) (same_some used) opened, tt)
         (inr (moved, own.id, there, of_event, ap replay_id (sym of_client), refl, refl));
     ended = refl;
     returns = refl;

@@ -8,6 +8,7 @@ use Rattle.cp_base.specs.Identifiers.{replay_id}
 use Rattle.cp_base.specs.declared.identifier.ClientNo.{ClientNo}
 use Rattle.cp_base.specs.declared.identifier.Invocation.{Invocation}
 use Rattle.cp_base.specs.declared.identifier.ThreadNo.{ThreadNo}
+use Rattle.cp_base.proofs.Tests.{none_some, same_some, no_false}
 use Rattle.cp_answers.specs.declared.answer.Answer.{Answer}
 use Rattle.cp_answers.specs.declared.answer.Answer.TheVariants as answer
 use Rattle.cp_object_ops.specs.declared.latch_op.LatchOp.TheVariants as latch
@@ -186,35 +187,29 @@ module _ (plan : Plan) (w : World) (me : ClientNo) (asked : List Asked) (ended :
     known-now = (begins w new_asked, Contains-append_right w.requests (map (begins w) (asked ++ new_asked ∷ [])) (begins w new_asked) (map-in (begins w) (asked ++ new_asked ∷ []) new_asked (Contains-append_right asked (new_asked ∷ []) new_asked (at-head new_asked []))), refl, refl)
 
 -- operations of calls
-none-some : {X : Type 0} {x : X} → None ≡ Some x → ⊥
-none-some e = cc
-
-some-same : {X : Type 0} {x y : X} → Some x ≡ Some y → x ≡ y
-some-same e = cc
-
 op-uses : (plan : Plan) (w : World) (me : ClientNo) (o : UserOp) (s round : ℕ) → (needs_session (need_of o) ≡ true → OpenedIn w.history s (replay_id me)) → UsesOwn w.history (replay_id me) (op_of plan o s round)
-op-uses plan w me (user.Lock object lock_call.Lock) s round h x is = subst (λ y. OpenedIn w.history y (replay_id me)) (some-same is) (h refl)
-op-uses plan w me (user.Lock object (lock_call.Try ms)) s round h x is = subst (λ y. OpenedIn w.history y (replay_id me)) (some-same is) (h refl)
-op-uses plan w me (user.Lock object lock_call.Unlock) s round h x is = subst (λ y. OpenedIn w.history y (replay_id me)) (some-same is) (h refl)
-op-uses plan w me (user.Lock object lock_call.Owner) s round h x is = absurd (none-some is)
-op-uses plan w me (user.Sem object (sem_call.Init n)) s round h x is = absurd (none-some is)
-op-uses plan w me (user.Sem object (sem_call.Acquire n)) s round h x is = subst (λ y. OpenedIn w.history y (replay_id me)) (some-same is) (h refl)
-op-uses plan w me (user.Sem object (sem_call.Try n ms)) s round h x is = subst (λ y. OpenedIn w.history y (replay_id me)) (some-same is) (h refl)
-op-uses plan w me (user.Sem object (sem_call.Release n)) s round h x is = subst (λ y. OpenedIn w.history y (replay_id me)) (some-same is) (h refl)
-op-uses plan w me (user.Sem object sem_call.Available) s round h x is = absurd (none-some is)
-op-uses plan w me (user.Sem object sem_call.Drain) s round h x is = subst (λ y. OpenedIn w.history y (replay_id me)) (some-same is) (h refl)
-op-uses plan w me (user.Sem object (sem_call.Increase n)) s round h x is = subst (λ y. OpenedIn w.history y (replay_id me)) (some-same is) (h refl)
-op-uses plan w me (user.Sem object (sem_call.Reduce n)) s round h x is = subst (λ y. OpenedIn w.history y (replay_id me)) (some-same is) (h refl)
-op-uses plan w me (user.Long object o) s round h x is = absurd (none-some is)
-op-uses plan w me (user.Ref object o) s round h x is = absurd (none-some is)
-op-uses plan w me (user.Jsem object o) s round h x is = absurd (none-some is)
-op-uses plan w me (user.Latch object o) s round h x is = absurd (none-some is)
-op-uses plan w me (user.Map object o) s round h x is = absurd (none-some is)
-op-uses plan w me (user.Destroy which object) s round h x is = absurd (none-some is)
-op-uses plan w me (user.CloseSession name) s round h x is = absurd (none-some is)
-op-uses plan w me (user.Group o) s round h x is = absurd (none-some is)
-op-uses plan w me (user.Member o) s round h x is = absurd (none-some is)
-op-uses plan w me (user.Change o) s round h x is = absurd (none-some is)
+op-uses plan w me (user.Lock object lock_call.Lock) s round h x is = subst (λ y. OpenedIn w.history y (replay_id me)) (same_some is) (h refl)
+op-uses plan w me (user.Lock object (lock_call.Try ms)) s round h x is = subst (λ y. OpenedIn w.history y (replay_id me)) (same_some is) (h refl)
+op-uses plan w me (user.Lock object lock_call.Unlock) s round h x is = subst (λ y. OpenedIn w.history y (replay_id me)) (same_some is) (h refl)
+op-uses plan w me (user.Lock object lock_call.Owner) s round h x is = absurd (none_some is)
+op-uses plan w me (user.Sem object (sem_call.Init n)) s round h x is = absurd (none_some is)
+op-uses plan w me (user.Sem object (sem_call.Acquire n)) s round h x is = subst (λ y. OpenedIn w.history y (replay_id me)) (same_some is) (h refl)
+op-uses plan w me (user.Sem object (sem_call.Try n ms)) s round h x is = subst (λ y. OpenedIn w.history y (replay_id me)) (same_some is) (h refl)
+op-uses plan w me (user.Sem object (sem_call.Release n)) s round h x is = subst (λ y. OpenedIn w.history y (replay_id me)) (same_some is) (h refl)
+op-uses plan w me (user.Sem object sem_call.Available) s round h x is = absurd (none_some is)
+op-uses plan w me (user.Sem object sem_call.Drain) s round h x is = subst (λ y. OpenedIn w.history y (replay_id me)) (same_some is) (h refl)
+op-uses plan w me (user.Sem object (sem_call.Increase n)) s round h x is = subst (λ y. OpenedIn w.history y (replay_id me)) (same_some is) (h refl)
+op-uses plan w me (user.Sem object (sem_call.Reduce n)) s round h x is = subst (λ y. OpenedIn w.history y (replay_id me)) (same_some is) (h refl)
+op-uses plan w me (user.Long object o) s round h x is = absurd (none_some is)
+op-uses plan w me (user.Ref object o) s round h x is = absurd (none_some is)
+op-uses plan w me (user.Jsem object o) s round h x is = absurd (none_some is)
+op-uses plan w me (user.Latch object o) s round h x is = absurd (none_some is)
+op-uses plan w me (user.Map object o) s round h x is = absurd (none_some is)
+op-uses plan w me (user.Destroy which object) s round h x is = absurd (none_some is)
+op-uses plan w me (user.CloseSession name) s round h x is = absurd (none_some is)
+op-uses plan w me (user.Group o) s round h x is = absurd (none_some is)
+op-uses plan w me (user.Member o) s round h x is = absurd (none_some is)
+op-uses plan w me (user.Change o) s round h x is = absurd (none_some is)
 
 -- a round 0 is always reached
 op-reached : (plan : Plan) (o : UserOp) (s : ℕ) (t : GroupState) → IsReached t (down_in (op_of plan o s 0))
@@ -246,31 +241,31 @@ abbrev pub CountsDown : UserOp → List ℕ → Type 0
 CountsDown o name = (object : Object) × (object.name ≡ name) × (o ≡ user.Latch object latch_call.Down)
 
 round-need : (o : UserOp) (name : List ℕ) → asks_round (need_of o) ≡ Some name → CountsDown o name
-round-need (user.Latch object latch_call.Down) name e = (object, some-same e, refl)
-round-need (user.Latch object (latch_call.Set n)) name e = absurd (none-some e)
-round-need (user.Latch object latch_call.Count) name e = absurd (none-some e)
-round-need (user.Latch object (latch_call.Await ms)) name e = absurd (none-some e)
-round-need (user.Lock object lock_call.Lock) name e = absurd (none-some e)
-round-need (user.Lock object (lock_call.Try ms)) name e = absurd (none-some e)
-round-need (user.Lock object lock_call.Unlock) name e = absurd (none-some e)
-round-need (user.Lock object lock_call.Owner) name e = absurd (none-some e)
-round-need (user.Sem object (sem_call.Init n)) name e = absurd (none-some e)
-round-need (user.Sem object (sem_call.Acquire n)) name e = absurd (none-some e)
-round-need (user.Sem object (sem_call.Try n ms)) name e = absurd (none-some e)
-round-need (user.Sem object (sem_call.Release n)) name e = absurd (none-some e)
-round-need (user.Sem object sem_call.Available) name e = absurd (none-some e)
-round-need (user.Sem object sem_call.Drain) name e = absurd (none-some e)
-round-need (user.Sem object (sem_call.Increase n)) name e = absurd (none-some e)
-round-need (user.Sem object (sem_call.Reduce n)) name e = absurd (none-some e)
-round-need (user.Long object o) name e = absurd (none-some e)
-round-need (user.Ref object o) name e = absurd (none-some e)
-round-need (user.Jsem object o) name e = absurd (none-some e)
-round-need (user.Map object o) name e = absurd (none-some e)
-round-need (user.Destroy which object) name e = absurd (none-some e)
-round-need (user.CloseSession n) name e = absurd (none-some e)
-round-need (user.Group o) name e = absurd (none-some e)
-round-need (user.Member o) name e = absurd (none-some e)
-round-need (user.Change o) name e = absurd (none-some e)
+round-need (user.Latch object latch_call.Down) name e = (object, same_some e, refl)
+round-need (user.Latch object (latch_call.Set n)) name e = absurd (none_some e)
+round-need (user.Latch object latch_call.Count) name e = absurd (none_some e)
+round-need (user.Latch object (latch_call.Await ms)) name e = absurd (none_some e)
+round-need (user.Lock object lock_call.Lock) name e = absurd (none_some e)
+round-need (user.Lock object (lock_call.Try ms)) name e = absurd (none_some e)
+round-need (user.Lock object lock_call.Unlock) name e = absurd (none_some e)
+round-need (user.Lock object lock_call.Owner) name e = absurd (none_some e)
+round-need (user.Sem object (sem_call.Init n)) name e = absurd (none_some e)
+round-need (user.Sem object (sem_call.Acquire n)) name e = absurd (none_some e)
+round-need (user.Sem object (sem_call.Try n ms)) name e = absurd (none_some e)
+round-need (user.Sem object (sem_call.Release n)) name e = absurd (none_some e)
+round-need (user.Sem object sem_call.Available) name e = absurd (none_some e)
+round-need (user.Sem object sem_call.Drain) name e = absurd (none_some e)
+round-need (user.Sem object (sem_call.Increase n)) name e = absurd (none_some e)
+round-need (user.Sem object (sem_call.Reduce n)) name e = absurd (none_some e)
+round-need (user.Long object o) name e = absurd (none_some e)
+round-need (user.Ref object o) name e = absurd (none_some e)
+round-need (user.Jsem object o) name e = absurd (none_some e)
+round-need (user.Map object o) name e = absurd (none_some e)
+round-need (user.Destroy which object) name e = absurd (none_some e)
+round-need (user.CloseSession n) name e = absurd (none_some e)
+round-need (user.Group o) name e = absurd (none_some e)
+round-need (user.Member o) name e = absurd (none_some e)
+round-need (user.Change o) name e = absurd (none_some e)
 
 -- a call goes on
 module _ (plan : Plan) (w : World) (me : ClientNo) (ended : List (Invocation × Answer)) (call : Call) (c : Client) (m : Midway plan w me c [] ended) (begun : TaskOk (ledger_of w) me call.thread call.deadline (task.Calls call.op)) where
@@ -288,7 +283,7 @@ module _ (plan : Plan) (w : World) (me : ClientNo) (ended : List (Invocation × 
   session-fine : (so : Option ℕ) → needs_session (need_of call.op) ≡ true → ((s : ℕ) → so ≡ Some s → OpenedIn w.history s (replay_id me)) → Fine (in_session plan (replay_id me) call so c)
   session-fine None needs opened = ask-midway plan w me [] ended call.thread (pending_of call purpose.ForSession) (op.Session session.Open) c m
       (record { of_task = begun; for_purpose = (needs, known-now plan w me [] ended call.thread (pending_of call purpose.ForSession) (op.Session session.Open) c m) })
-      (λ s is. absurd (none-some is), tt) (sourced (pending_of call purpose.ForSession) (op.Session session.Open) (inr (inl (needs, refl))))
+      (λ s is. absurd (none_some is), tt) (sourced (pending_of call purpose.ForSession) (op.Session session.Open) (inr (inl (needs, refl))))
   session-fine (Some s) needs opened = itself-fine s 0 (λ n. opened s refl) (op-reached plan call.op s w.state)
 
   closing-fine : (so : Option ℕ) → need_of call.op ≡ SessionToClose → Fine (closing plan (replay_id me) call so c)
@@ -298,12 +293,12 @@ module _ (plan : Plan) (w : World) (me : ClientNo) (ended : List (Invocation × 
     no e = cc
 
   own-opened : (g : ℕ) (so : Option OwnSession) → find nat_cmp c.sessions g ≡ so → (s : ℕ) → id_of so ≡ Some s → OpenedIn w.history s (replay_id me)
-  own-opened g None is s e = absurd (none-some e)
-  own-opened g (Some own) is s e = subst (λ y. OpenedIn w.history y (replay_id me)) (some-same e) (rows-find nat_cmp number_key (λ k (x : OwnSession). OpenedIn w.history x.id (replay_id me)) c.sessions g own is m.client.own)
+  own-opened g None is s e = absurd (none_some e)
+  own-opened g (Some own) is s e = subst (λ y. OpenedIn w.history y (replay_id me)) (same_some e) (rows-find nat_cmp number_key (λ k (x : OwnSession). OpenedIn w.history x.id (replay_id me)) c.sessions g own is m.client.own)
 
   hold-opened : (name : List ℕ) (h : Option HoldRecord) → find lock_cmp c.holds (call.thread.0, call.group.0, name) ≡ h → (s : ℕ) → or_own h (session_in_group c call.group) ≡ Some s → OpenedIn w.history s (replay_id me)
   hold-opened name None is s e = own-opened call.group.0 (find nat_cmp c.sessions call.group.0) refl s e
-  hold-opened name (Some h) is s e = subst (λ y. OpenedIn w.history y (replay_id me)) (some-same e) (rows-find lock_cmp lock_key (λ k (x : HoldRecord). HoldOk (with_step w [] ended) me k x) c.holds (call.thread.0, call.group.0, name) h is m.client.held).0
+  hold-opened name (Some h) is s e = subst (λ y. OpenedIn w.history y (replay_id me)) (same_some e) (rows-find lock_cmp lock_key (λ k (x : HoldRecord). HoldOk (with_step w [] ended) me k x) c.holds (call.thread.0, call.group.0, name) h is m.client.held).0
 
   need-fine : (need : Need) → need_of call.op ≡ need → Fine (by_need plan (replay_id me) need call c)
   need-fine Nothing is = itself-fine 0 0 (λ n. absurd (no (sym (ap needs_session is) ∙ n))) (op-reached plan call.op 0 w.state) where
@@ -323,7 +318,7 @@ module _ (plan : Plan) (w : World) (me : ClientNo) (ended : List (Invocation × 
               (known-now plan w me [] ended call.thread (pending_of call purpose.ForRound) (op.Latch name latch.Round) c m),
         );
       })
-      (λ s used. absurd (none-some used), tt) (sourced (pending_of call purpose.ForRound) (op.Latch name latch.Round) (inr (inr (name, is, refl))))
+      (λ s used. absurd (none_some used), tt) (sourced (pending_of call purpose.ForRound) (op.Latch name latch.Round) (inr (inr (name, is, refl))))
 
   pub go_on-fine : Fine (go_on plan (replay_id me) call c)
   go_on-fine = need-fine (need_of call.op) refl
@@ -371,7 +366,7 @@ midway-now plan w me ended good = record {
   client = client-on (ledger_of w) (with_step w [] ended) (nothing-yet w ended) plan me (client_at w me) (good.clients me);
   rises = λ t. le_refl (thread_at (client_at w me) t).number;
   fresh = λ x h. absurd (no-element x h);
-  distinct = λ j k a b at_j. absurd (none-some at_j);
+  distinct = λ j k a b at_j. absurd (none_some at_j);
   legal = λ x h. absurd (no-element x h);
   sources = λ x h. absurd (no-element x h);
 }
@@ -384,35 +379,32 @@ is_closing (HoldingSession name) = false
 is_closing ItsSession = false
 is_closing (Round name) = false
 
-false_true : false ≡ true → ⊥
-false_true e = cc
-
 closing-need : (o : UserOp) → is_closing (need_of o) ≡ true → (name : Option (List ℕ)) × (o ≡ user.CloseSession name)
 closing-need (user.CloseSession n) e = (n, refl)
-closing-need (user.Latch object latch_call.Down) e = absurd (false_true e)
-closing-need (user.Latch object (latch_call.Set n)) e = absurd (false_true e)
-closing-need (user.Latch object latch_call.Count) e = absurd (false_true e)
-closing-need (user.Latch object (latch_call.Await ms)) e = absurd (false_true e)
-closing-need (user.Lock object lock_call.Lock) e = absurd (false_true e)
-closing-need (user.Lock object (lock_call.Try ms)) e = absurd (false_true e)
-closing-need (user.Lock object lock_call.Unlock) e = absurd (false_true e)
-closing-need (user.Lock object lock_call.Owner) e = absurd (false_true e)
-closing-need (user.Sem object (sem_call.Init n)) e = absurd (false_true e)
-closing-need (user.Sem object (sem_call.Acquire n)) e = absurd (false_true e)
-closing-need (user.Sem object (sem_call.Try n ms)) e = absurd (false_true e)
-closing-need (user.Sem object (sem_call.Release n)) e = absurd (false_true e)
-closing-need (user.Sem object sem_call.Available) e = absurd (false_true e)
-closing-need (user.Sem object sem_call.Drain) e = absurd (false_true e)
-closing-need (user.Sem object (sem_call.Increase n)) e = absurd (false_true e)
-closing-need (user.Sem object (sem_call.Reduce n)) e = absurd (false_true e)
-closing-need (user.Long object o) e = absurd (false_true e)
-closing-need (user.Ref object o) e = absurd (false_true e)
-closing-need (user.Jsem object o) e = absurd (false_true e)
-closing-need (user.Map object o) e = absurd (false_true e)
-closing-need (user.Destroy which object) e = absurd (false_true e)
-closing-need (user.Group o) e = absurd (false_true e)
-closing-need (user.Member o) e = absurd (false_true e)
-closing-need (user.Change o) e = absurd (false_true e)
+closing-need (user.Latch object latch_call.Down) e = absurd (no_false e)
+closing-need (user.Latch object (latch_call.Set n)) e = absurd (no_false e)
+closing-need (user.Latch object latch_call.Count) e = absurd (no_false e)
+closing-need (user.Latch object (latch_call.Await ms)) e = absurd (no_false e)
+closing-need (user.Lock object lock_call.Lock) e = absurd (no_false e)
+closing-need (user.Lock object (lock_call.Try ms)) e = absurd (no_false e)
+closing-need (user.Lock object lock_call.Unlock) e = absurd (no_false e)
+closing-need (user.Lock object lock_call.Owner) e = absurd (no_false e)
+closing-need (user.Sem object (sem_call.Init n)) e = absurd (no_false e)
+closing-need (user.Sem object (sem_call.Acquire n)) e = absurd (no_false e)
+closing-need (user.Sem object (sem_call.Try n ms)) e = absurd (no_false e)
+closing-need (user.Sem object (sem_call.Release n)) e = absurd (no_false e)
+closing-need (user.Sem object sem_call.Available) e = absurd (no_false e)
+closing-need (user.Sem object sem_call.Drain) e = absurd (no_false e)
+closing-need (user.Sem object (sem_call.Increase n)) e = absurd (no_false e)
+closing-need (user.Sem object (sem_call.Reduce n)) e = absurd (no_false e)
+closing-need (user.Long object o) e = absurd (no_false e)
+closing-need (user.Ref object o) e = absurd (no_false e)
+closing-need (user.Jsem object o) e = absurd (no_false e)
+closing-need (user.Map object o) e = absurd (no_false e)
+closing-need (user.Destroy which object) e = absurd (no_false e)
+closing-need (user.Group o) e = absurd (no_false e)
+closing-need (user.Member o) e = absurd (no_false e)
+closing-need (user.Change o) e = absurd (no_false e)
 
 -- a call begins: its row stands already
 pub call-ok : (plan : Plan) (w : World) (me : ClientNo) (t : ThreadNo) (o : UserOp) → Good plan w → Contains w.calls (record { event = w.shown.number; client = me; thread = t; op = o; clock = (client_at w me).clock })

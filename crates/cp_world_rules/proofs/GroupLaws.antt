@@ -12,6 +12,7 @@ use Rattle.std.proofs.lemmas.List.Elements.{All-contains, Contains-append_cases,
 use Rattle.cp_base.specs.declared.identifier.ClientId.{ClientId}
 use Rattle.cp_base.specs.declared.identifier.GroupId.{GroupId}
 use Rattle.cp_base.specs.declared.identifier.Invocation.{Invocation}
+use Rattle.cp_base.proofs.Tests.{no_true}
 use Rattle.cp_answers.specs.declared.answer.Answer.{Answer}
 use Rattle.cp_answers.specs.declared.answer.Answer.TheVariants as answer
 use Rattle.cp_ops.specs.declared.entry.Entry.TheVariants as entry
@@ -67,15 +68,12 @@ Tells s client (op.Session session.Open) (answer.Session id) = is_open_for s.ses
 Tells s client (op.Latch name latch.Round) (answer.Value r) = IsReached s (Some (name, unsigned_abs r))
 Tells s client o a = Unit {0}
 
-true_false : true ≡ false → ⊥
-true_false e = cc
-
 pub tells-plain : (s : GroupState) (client : ClientId) (o : Op) (a : Answer) → prepares o ≡ false → Tells s client o a
-tells-plain s client (op.Session session.Open) a e = absurd (true_false e)
+tells-plain s client (op.Session session.Open) a e = absurd (no_true e)
 tells-plain s client (op.Session (session.Beat n)) a e = tt
 tells-plain s client (op.Session (session.Close n)) a e = tt
 tells-plain s client (op.Latch name latch.Count) a e = tt
-tells-plain s client (op.Latch name latch.Round) a e = absurd (true_false e)
+tells-plain s client (op.Latch name latch.Round) a e = absurd (no_true e)
 tells-plain s client (op.Latch name (latch.Set n)) a e = tt
 tells-plain s client (op.Latch name (latch.Down round)) a e = tt
 tells-plain s client (op.Latch name (latch.Await ms)) a e = tt

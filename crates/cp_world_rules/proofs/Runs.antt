@@ -6,6 +6,7 @@ use Rattle.cp_base.specs.Identifiers.{replay_id}
 use Rattle.cp_base.specs.declared.identifier.ClientNo.{ClientNo}
 use Rattle.cp_base.specs.declared.identifier.Invocation.{Invocation}
 use Rattle.cp_base.specs.declared.identifier.ThreadNo.{ThreadNo}
+use Rattle.cp_base.proofs.Tests.{none_some}
 use Rattle.cp_answers.specs.declared.answer.Answer.{Answer}
 use Rattle.cp_ops.specs.declared.op.Op.{Op}
 use Rattle.cp_events.specs.declared.effects.Ignored.{Ignored}
@@ -166,15 +167,12 @@ module _ (plan : Plan) where
   step-good : (e : Event) (w : World) → w.shown.number ≤ length w.effects + 1 → w.queue ≡ [] → Good plan w → Good plan (world_step plan w e)
   step-good e w l none good = close-good (handed plan (handed plan (begin plan e (start e w)))) (handed-good (handed plan (begin plan e (start e w))) (handed-good (begin plan e (start e w)) (begin-good e (start e w) (started e w l none good))))
 
-none-some : {X : Type 0} {x : X} → None ≡ Some x → ⊥
-none-some e = cc
-
 none-good : (plan : Plan) → Good plan new_world
 none-good plan = record {
   state = refl;
   ordered = order-empty;
   orderly = tt;
-  own = λ place call o s is. absurd (none-some is);
+  own = λ place call o s is. absurd (none_some is);
   upto = λ x client h. absurd (false_true h);
   rounds = All-nil (λ (r : LatchRow). r.round ≤ 2 ^ 62);
   waiters = λ x h. absurd (no-element x h);
@@ -183,11 +181,11 @@ none-good plan = record {
   ended_by_now = λ e h. absurd (no-element e h);
   clients_are = λ r h. absurd (no-element r h);
   numbers = λ r h. absurd (no-element r h);
-  distinct = λ j k a b at_j. absurd (none-some at_j);
+  distinct = λ j k a b at_j. absurd (none_some at_j);
   entered = λ c h. absurd (no-element c h);
   sources = λ r h. absurd (no-element r h);
   returns = λ r h. absurd (no-element r h);
-  clients = λ me. record { own = All-nil (λ (e : ℕ × OwnSession). OpenedIn [] e.1.id (replay_id me)); held = All-nil (λ (e : LockKey × HoldRecord). HoldOk (ledger_of new_world) me e.0 e.1); pending = λ t now is. absurd (none-some is) };
+  clients = λ me. record { own = All-nil (λ (e : ℕ × OwnSession). OpenedIn [] e.1.id (replay_id me)); held = All-nil (λ (e : LockKey × HoldRecord). HoldOk (ledger_of new_world) me e.0 e.1); pending = λ t now is. absurd (none_some is) };
 }
   where
     false_true : false ≡ true → ⊥

@@ -12,6 +12,7 @@ use Rattle.cp_base.specs.declared.identifier.ClientNo.{ClientNo}
 use Rattle.cp_base.specs.declared.identifier.GroupId.{GroupId}
 use Rattle.cp_base.specs.declared.identifier.Invocation.{Invocation}
 use Rattle.cp_base.specs.declared.identifier.ThreadNo.{ThreadNo}
+use Rattle.cp_base.proofs.Tests.{none_some, same_some, no_false}
 use Rattle.cp_answers.specs.declared.answer.Answer.{Answer}
 use Rattle.cp_answers.specs.declared.answer.Answer.TheVariants as answer
 use Rattle.cp_ops.specs.declared.entry.Entry.TheVariants as entry
@@ -59,15 +60,6 @@ use Rattle.cp_world_rules.specs.Laws.{IsSettled, is_for_itself}
 use Rattle.cp_world_rules.proofs.Lists.{push-none}
 use Rattle.cp_world_rules.proofs.GroupLaws.{prepares}
 
-none-some : {X : Type 0} {x : X} → None ≡ Some x → ⊥
-none-some e = cc
-
-some-same : {X : Type 0} {x y : X} → Some x ≡ Some y → x ≡ y
-some-same e = cc
-
-false_true : false ≡ true → ⊥
-false_true e = cc
-
 abbrev pub PendingIs : Thread → Pending → Type 0
 PendingIs row now = row.pending ≡ Some now
 
@@ -107,8 +99,8 @@ IsReady (task.Calls o) purpose.ForSession g = (needs_session (need_of o) ≡ tru
 IsReady x p g = Unit {0}
 
 session-group : (o : UserOp) → needs_session (need_of o) ≡ true → group_of o ≡ default_group
-session-group (user.Group o) e = absurd (false_true e)
-session-group (user.Member o) e = absurd (false_true e)
+session-group (user.Group o) e = absurd (no_false e)
+session-group (user.Member o) e = absurd (no_false e)
 session-group (user.Long object o) e = refl
 session-group (user.Ref object o) e = refl
 session-group (user.Lock object o) e = refl
@@ -133,10 +125,10 @@ row-settles c after t row e mine x now is = by (is_at (nat_cmp x.0) t.0) refl wh
   by false k = inr (k, ap (λ rows. clients.or_new (find nat_cmp rows x.0)) e ∙ ap clients.or_new (find-put_other nat_cmp number_key c.threads t.0 x.0 row k))
 
 none-pending : (n : ℕ) (now : Pending) → PendingIs (record { number = n; pending = None }) now → is_for_itself now.purpose ≡ true
-none-pending n now e = absurd (none-some e)
+none-pending n now e = absurd (none_some e)
 
 one-pending : (n : ℕ) (p : Pending) → is_for_itself p.purpose ≡ true → (now : Pending) → PendingIs (record { number = n; pending = Some p }) now → is_for_itself now.purpose ≡ true
-one-pending n p h now e = subst (λ (x : Pending). is_for_itself x.purpose ≡ true) (some-same e) h
+one-pending n p h now e = subst (λ (x : Pending). is_for_itself x.purpose ≡ true) (same_some e) h
 
 -- what a step leads to at a client
 abbrev pub Leads : Client → ThreadNo → Did → Type 0
@@ -153,7 +145,7 @@ module _ (plan : Plan) (me : ClientId) (call : Call) (c b : Client) (same : b.th
   )
 
   session-leads : (so : Option ℕ) → is_some so ≡ true → Leads c call.thread (in_session plan me call so b)
-  session-leads None h = absurd (false_true h)
+  session-leads None h = absurd (no_false h)
   session-leads (Some s) h = itself-leads s 0
 
   hold-some : (h : Option HoldRecord) (own : Option ℕ) → is_some own ≡ true → is_some (or_own h own) ≡ true
@@ -161,11 +153,11 @@ module _ (plan : Plan) (me : ClientId) (call : Call) (c b : Client) (same : b.th
   hold-some (Some h) own e = refl
 
   need-leads : (need : Need) → is_some (session_in_group b call.group) ≡ true → needs_session need ≡ true → Leads c call.thread (by_need plan me need call b)
-  need-leads Nothing own h = absurd (false_true h)
+  need-leads Nothing own h = absurd (no_false h)
   need-leads (HoldingSession name) own h = session-leads (holding_session call name b) (hold-some (find lock_cmp b.holds (call.thread.0, call.group.0, name)) (session_in_group b call.group) own)
   need-leads ItsSession own h = session-leads (session_in_group b call.group) own
-  need-leads SessionToClose own h = absurd (false_true h)
-  need-leads (Round name) own h = absurd (false_true h)
+  need-leads SessionToClose own h = absurd (no_false h)
+  need-leads (Round name) own h = absurd (no_false h)
 
 with-some : (g : GroupId) (s : ℕ) (c : Client) → is_some (session_in_group (with_session g s c) g) ≡ true
 with-some g s c = cases (λ (x : Client). is_some (session_in_group x g) ≡ true) (has_session g s c) _ _ (some (find nat_cmp c.sessions g.0))
@@ -197,13 +189,13 @@ module _ (plan : Plan) (me : ClientId) (request : Invocation) (c : Client) (one 
   itself-quiet (task.Calls o) now a h = by now.purpose h where
     by : (p : Purpose) → is_for_itself p ≡ true → (prepared plan me request.number (call_in request now o) p a c).asked ≡ []
     by (purpose.ForItself s) h = refl
-    by purpose.ForSession h = absurd (false_true h)
-    by purpose.ForRound h = absurd (false_true h)
+    by purpose.ForSession h = absurd (no_false h)
+    by purpose.ForRound h = absurd (no_false h)
 
 ready-itself : (x : Task) (p : Purpose) (g : GroupId) → is_for_itself p ≡ true → IsReady x p g
 ready-itself (task.Calls o) (purpose.ForItself s) g h = tt
 ready-itself (task.Calls o) purpose.ForRound g h = tt
-ready-itself (task.Calls o) purpose.ForSession g h = absurd (false_true h)
+ready-itself (task.Calls o) purpose.ForSession g h = absurd (no_false h)
 ready-itself (task.Beats s) p g h = tt
 
 -- Of the world.
@@ -321,7 +313,7 @@ module _ (plan : Plan) (call : Invocation) (w : World) (but : But call w) (a : I
       (let m = l.1 in let g = commits-grow (on_pending plan (replay_id (client_of a.0)) a.0 (Some now) a.1 c).asked (note (client_of a.0) (on_pending plan (replay_id (client_of a.0)) a.0 (Some now) a.1 c) w) in omega (arith, m, g))
 
   open-one : (o : Option Pending) → (thread_at c a.0.thread).pending ≡ o → Shows (on_pending plan (replay_id (client_of a.0)) a.0 o a.1 c)
-  open-one None is = dropped (λ same now e n. none-some (sym is ∙ e))
+  open-one None is = dropped (λ same now e n. none_some (sym is ∙ e))
   open-one (Some now) is = answered-one now ((but (client_of a.0)).0 a.0.thread now is)
 
   pub hand-one : Shows (answer_client plan (replay_id (client_of a.0)) a.0 a.1 c)
@@ -348,7 +340,7 @@ own-answer i call (op.Session session.Open) s p = either (Answers call) (s.destr
     (answer.GroupDestroyed s.destroyed_group, at-head (call, answer.GroupDestroyed s.destroyed_group) [])
 own-answer i call (op.Latch name latch.Round) s p = either (Answers call) (s.destroyed_group.0 == 0) _ _ (after-answers call (supersede call s) (perform i call (op.Latch name latch.Round) (supersede call s).state) (round-answers i call name (supersede call s).state))
     (answer.GroupDestroyed s.destroyed_group, at-head (call, answer.GroupDestroyed s.destroyed_group) [])
-own-answer i call o s p = absurd (false_true p)
+own-answer i call o s p = absurd (no_false p)
 
 -- with none that prepares, an answer asks nothing
 module _ (plan : Plan) (w : World) (quiet : Quiet w) where
@@ -454,7 +446,7 @@ module _ (w : World) (quiet : Quiet w) where
         by true k = let e : x ≡ t = ap (λ n. record { 0 = n }) (number_key.same x.0 t.0 (equal_is _ k)) in
             let here : thread_at (with_thread (client_at w me) t (prepared_row (client_at w me) t r.0)) x ≡ prepared_row (client_at w me) t r.0 =
             ap (λ y. thread_at (with_thread (client_at w me) t (prepared_row (client_at w me) t r.0)) y) e ∙ ap clients.or_new (find-put_same nat_cmp number_key (client_at w me).threads t.0 (prepared_row (client_at w me) t r.0)) in
-            let it : r.0 ≡ now = some-same (ap (λ (y : Thread). y.pending) (sym here) ∙ is) in
+            let it : r.0 ≡ now = same_some (ap (λ (y : Thread). y.pending) (sym here) ∙ is) in
             inr ((refl, e, ap (λ (y : Thread). y.number) here), subst (λ (y : Pending). IsReady y.task y.purpose y.group) it r.4)
         by false k = let there : thread_at (with_thread (client_at w me) t (prepared_row (client_at w me) t r.0)) x ≡ thread_at (client_at w me) x = ap clients.or_new (find-put_other nat_cmp number_key (client_at w me).threads t.0 x.0 (prepared_row (client_at w me) t r.0) k) in
             inl ((quiet me).0 x now (ap (λ (y : Thread). y.pending) (sym there) ∙ is))
@@ -553,7 +545,7 @@ module _ (plan : Plan) where
     add n k = omega arith
 
   pub rests : (events : List Event) → RestsAfter (length events) (world_after plan new_world events)
-  rests events = subst (λ k. RestsAfter k (world_after plan new_world events)) (plain (length events)) (run-rests 0 events new_world (record { quiet = λ me. (λ t now e. absurd (none-some e), inl refl); queue = refl; size = omega arith })) where
+  rests events = subst (λ k. RestsAfter k (world_after plan new_world events)) (plain (length events)) (run-rests 0 events new_world (record { quiet = λ me. (λ t now e. absurd (none_some e), inl refl); queue = refl; size = omega arith })) where
     plain : (n : ℕ) → 0 + n ≡ n
     plain n = omega arith
 

@@ -1,6 +1,6 @@
 use Rattle.std.proofs.Common.{sym, ◌∙◌, refl, true, false}
+use Rattle.cp_base.proofs.Tests.{no_true}
 use Rattle.cp_group_state.specs.Semaphores.{is_held}
-use Rattle.cp_group_state.proofs.Keyed.{no_true}
 use Rattle.cp_semaphore.specs.Nested.{flat}
 use Rattle.cp_semaphore.proofs.Destroyed.{left-where}
 use Rattle.cp_semaphore.proofs.tables.forget_held.Goals as goal
