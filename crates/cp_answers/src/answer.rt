@@ -349,7 +349,8 @@ impl Answer {
 
 /// No spelling of an answer begins another, so what was written is read again and the rest is left.
 pub fn no_answer_begins_another()
-    ensures { (x y : Answer) (a b : List ℕ) → answer_grammar.Fits x → answer_grammar.Fits y → answer_grammar.spelling x ++ a ≡ answer_grammar.spelling y ++ b → (x ≡ y) × (a ≡ b) }
+    ensures { (x y : Answer) (a b : List ℕ) → answer_grammar.Fits x → answer_grammar.Fits y → answer_grammar.spelling x
+        ++ a ≡ answer_grammar.spelling y ++ b → (x ≡ y) × (a ≡ b) }
 {
     cp_grammar::no_spelling_begins_another::<Answer>()
 }

@@ -167,7 +167,8 @@ impl Refusal {
 
 /// No spelling of a refusal begins another, so what was written is read again and the rest is left.
 pub fn no_refusal_begins_another()
-    ensures { (x y : Refusal) (a b : List ℕ) → refusal.Fits x → refusal.Fits y → refusal.spelling x ++ a ≡ refusal.spelling y ++ b → (x ≡ y) × (a ≡ b) }
+    ensures { (x y : Refusal) (a b : List ℕ) → refusal.Fits x → refusal.Fits y → refusal.spelling x ++ a
+        ≡ refusal.spelling y ++ b → (x ≡ y) × (a ≡ b) }
 {
     cp_grammar::no_spelling_begins_another::<Refusal>()
 }

@@ -1,4 +1,5 @@
 -- The words of values: numbers, bytes, names. Each is one field, which fails at its first byte.
+use Rattle.cp_base.specs.declared.limits.TheConstants.{LAST_NUMBER}
 use Rattle.std.specs.Prelude.{ℕ, ℤ, pos, negsuc, ◌-◌, ◌^◌, Bool, true, cond, not, ◌&&◌, List, [], ◌∷◌, length, Option, Some, None, Result, Ok, Err, nat_le, nat_lt, codes}
 use Rattle.std.specs.Fmt.{signed_decimal}
 use Rattle.std.specs.Str.Parse.{signed_digits_value}
@@ -37,7 +38,7 @@ permits_word end = number_word end (2 ^ 31 - 1)
 
 -- an index of the log
 abbrev pub index_word : ℕ → Grammar ℕ ℕ
-index_word end = number_word end (2 ^ 62)
+index_word end = number_word end LAST_NUMBER
 
 -- a member's number, from 1 to 9
 unfoldable pub member_word : ℕ → Grammar ℕ MemberNo

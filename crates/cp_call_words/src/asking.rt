@@ -71,7 +71,8 @@ pub fn append_on<C: CallWords>(
     short: bool,
     out: &mut Vec<u8>,
 ) -> Result<(), NoMemory>
-    ensures { OnOk result (out.new.items ≡ out.old.items ++ (on_object true C.first C.calls).spelling (with_group (named short) object.now, Some call.now)) }
+    ensures { OnOk result (out.new.items ≡ out.old.items
+        ++ (on_object true C.first C.calls).spelling (with_group (named short) object.now, Some call.now)) }
 {
     append_object(object, short, out)?;
     call.append_call(out)?;

@@ -16,13 +16,17 @@ use std::alloc::Global;
 /// Digits of bytes, behind an `x`, are read as these bytes.
 fn digits_are_read(digits: &[u8], bytes: &[u8])
     requires { digits.now ≡ encode_lower bytes.now }
-    ensures { (same_bytes (120 ∷ digits.now) (hex_text (hex_bytes (120 ∷ digits.now))) ≡ true) × (bytes.now ≡ hex_bytes (120 ∷ digits.now)) }
+    ensures { (same_bytes (120 ∷ digits.now) (hex_text (hex_bytes (120 ∷ digits.now))) ≡ true)
+        × (bytes.now ≡ hex_bytes (120 ∷ digits.now)) }
 {}
 
 /// The bytes whose digits stand behind an `x`.
 #[tactic(auto, using(crate::proofs::HexWords::no_text))]
 fn read_digits(alloc: Global, digits: &[u8]) -> Result<Option<Vec<u8>>, NoMemory>
-    ensures { IfOk result (λ read. MatchOption read (same_bytes (120 ∷ digits.now) (hex_text (hex_bytes (120 ∷ digits.now))) ≡ false) (λ bytes. (same_bytes (120 ∷ digits.now) (hex_text (hex_bytes (120 ∷ digits.now))) ≡ true) × (bytes.items ≡ hex_bytes (120 ∷ digits.now)))) }
+    ensures { IfOk result (λ read.
+        MatchOption read (same_bytes (120 ∷ digits.now) (hex_text (hex_bytes (120 ∷ digits.now))) ≡ false) (λ bytes.
+        (same_bytes (120 ∷ digits.now) (hex_text (hex_bytes (120 ∷ digits.now))) ≡ true)
+        × (bytes.items ≡ hex_bytes (120 ∷ digits.now)))) }
 {
     match read_hex(alloc, digits)? {
         Some(bytes) => {
@@ -36,7 +40,9 @@ fn read_digits(alloc: Global, digits: &[u8]) -> Result<Option<Vec<u8>>, NoMemory
 /// The bytes whose text a word is.
 #[tactic(auto, using(crate::proofs::HexWords::no_front))]
 fn read_bytes(alloc: Global, word: &[u8]) -> Result<Option<Vec<u8>>, NoMemory>
-    ensures { IfOk result (λ read. MatchOption read (same_bytes word.now (hex_text (hex_bytes word.now)) ≡ false) (λ bytes. (same_bytes word.now (hex_text (hex_bytes word.now)) ≡ true) × (bytes.items ≡ hex_bytes word.now))) }
+    ensures { IfOk result (λ read.
+        MatchOption read (same_bytes word.now (hex_text (hex_bytes word.now)) ≡ false) (λ bytes.
+        (same_bytes word.now (hex_text (hex_bytes word.now)) ≡ true) × (bytes.items ≡ hex_bytes word.now))) }
 {
     let [first, digits @ ..] = word else {
         return Ok(None);
@@ -85,7 +91,9 @@ pub fn append_hex_word(bytes: &Items<u8>, end: u8, out: &mut Vec<u8>) -> Result<
 
 /// The reference whose text a word is.
 fn read_reference(alloc: Global, word: &[u8]) -> Result<Option<Option<Items<u8>>>, NoMemory>
-    ensures { IfOk result (λ read. MatchOption read (is_own_text reference_text reference_of is_reference word.now ≡ false) (λ reference. (is_own_text reference_text reference_of is_reference word.now ≡ true) × (reference ≡ reference_of word.now))) }
+    ensures { IfOk result (λ read.
+        MatchOption read (is_own_text reference_text reference_of is_reference word.now ≡ false) (λ reference.
+        (is_own_text reference_text reference_of is_reference word.now ≡ true) × (reference ≡ reference_of word.now))) }
 {
     if is_word(word, b"null") {
         return Ok(Some(None));

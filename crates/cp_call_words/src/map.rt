@@ -53,7 +53,8 @@ fn append_pair(
     value: &Items<u8>,
     out: &mut Vec<u8>,
 ) -> Result<(), NoMemory>
-    ensures { OnOk result (out.new.items ≡ out.old.items ++ ((word.now ++ 32 ∷ []) ++ ((key_word 32).spelling key.now ++ (value_word 10).spelling value.now))) }
+    ensures { OnOk result (out.new.items ≡ out.old.items
+        ++ ((word.now ++ 32 ∷ []) ++ ((key_word 32).spelling key.now ++ (value_word 10).spelling value.now))) }
 {
     append_word(word, SPACE, out)?;
     append_key(key, SPACE, out)?;

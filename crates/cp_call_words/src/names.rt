@@ -39,7 +39,9 @@ fn may_be_named(managed: bool, bytes: &[u8]) -> bool
 
 /// The group that a call may name by these bytes: any but METADATA where groups are managed, else `default` alone.
 pub fn read_group(alloc: Global, managed: bool, bytes: &[u8]) -> Result<Option<Name>, NoMemory>
-    ensures { IfOk result (λ read. MatchOption read (is_group managed bytes.now ≡ false) (λ name. (is_group managed bytes.now ≡ true) × (name ≡ bytes.now))) }
+    ensures { IfOk result (λ read.
+        MatchOption read (is_group managed bytes.now ≡ false) (λ name. (is_group managed bytes.now ≡ true)
+        × (name ≡ bytes.now))) }
 {
     if !may_be_named(managed, bytes) {
         return Ok(None);

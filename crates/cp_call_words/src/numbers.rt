@@ -65,7 +65,9 @@ pub fn append_member_word(member: MemberNo, end: u8, out: &mut Vec<u8>) -> Resul
 /// The number of 64 bits whose text a word is.
 #[tactic(auto, using(crate::proofs::SignedWords::reads))]
 fn read_long(word: &[u8]) -> Option<i64>
-    ensures { MatchOption result (is_own_text signed_decimal (signed_digits_value 10) is_long word.now ≡ false) (λ number. (is_own_text signed_decimal (signed_digits_value 10) is_long word.now ≡ true) × (number ≡ signed_digits_value 10 word.now)) }
+    ensures { MatchOption result (is_own_text signed_decimal (signed_digits_value 10) is_long word.now
+        ≡ false) (λ number. (is_own_text signed_decimal (signed_digits_value 10) is_long word.now ≡ true)
+        × (number ≡ signed_digits_value 10 word.now)) }
 {
     read_signed(word)
 }

@@ -29,7 +29,10 @@ fn read_parts(
     name: &[u8],
     group: Option<&[u8]>,
 ) -> Result<Option<Object>, NoMemory>
-    ensures { IfOk result (λ read. MatchOption read (is_object managed (object_with name.now (option_copied group.entry)) ≡ false) (λ object. (is_object managed (object_with name.now (option_copied group.entry)) ≡ true) × (object ≡ object_with name.now (option_copied group.entry)))) }
+    ensures { IfOk result (λ read.
+        MatchOption read (is_object managed (object_with name.now (option_copied group.entry)) ≡ false) (λ object.
+        (is_object managed (object_with name.now (option_copied group.entry)) ≡ true)
+        × (object ≡ object_with name.now (option_copied group.entry)))) }
 {
     let Some(name) = read_name(alloc, name)? else {
         return Ok(None);
@@ -48,7 +51,9 @@ fn read_parts(
 
 /// The object that a word is, where a call may name it.
 fn read_object(alloc: Global, managed: bool, word: &[u8]) -> Result<Option<Object>, NoMemory>
-    ensures { IfOk result (λ read. MatchOption read (is_object managed (object_of word.now) ≡ false) (λ object. (is_object managed (object_of word.now) ≡ true) × (object ≡ object_of word.now))) }
+    ensures { IfOk result (λ read.
+        MatchOption read (is_object managed (object_of word.now) ≡ false) (λ object.
+        (is_object managed (object_of word.now) ≡ true) × (object ≡ object_of word.now))) }
 {
     // Most calls name no group.
     if let Some(name) = read_name(alloc, word)? {

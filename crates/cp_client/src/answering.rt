@@ -118,7 +118,8 @@ fn prepared(
     out: &mut ClientOut,
 ) -> Result<(), NoMemory>
     requires { HasRoom call.thread client.old }
-    ensures { OnOk result (Gives (prepared_by plan.now me (next_of purpose answer) number (call_of call) purpose answer client.old) client.new out.old out.new) }
+    ensures { OnOk result (Gives (prepared_by plan.now me (next_of purpose answer) number (call_of call) purpose answer
+        client.old) client.new out.old out.new) }
 {
     match next_of(purpose, &answer) {
         Next::WithSession(session) => go_on_in(client, plan, me, call, session, out),

@@ -1,5 +1,5 @@
 //! A client.
-ghost use Rattle.std.specs.Prelude.{◌≡◌, ◌≤◌, ◌<◌, ◌+◌, ◌^◌, IsTrue, OnOk};
+ghost use Rattle.std.specs.Prelude.{◌≡◌, ◌≤◌, ◌<◌, ◌+◌, IsTrue, OnOk};
 ghost use Rattle.cp_client_rules.specs.Clients.{new_client, thread_at, with_thread};
 ghost use Rattle.cp_client_rules.specs.Calls.{call_client};
 ghost use Rattle.cp_client_rules.specs.Answers.{answer_client};
@@ -12,15 +12,13 @@ use crate::holds::LockKey;
 use crate::output::ClientOut;
 use crate::{answering, going, holds, threads, ticking};
 use cp_answers::Answer;
+use cp_base::limits::LAST_NUMBER;
 use cp_base::{ClientId, Invocation, NoMemory, ThreadNo};
 use cp_client_rules::{HoldRecord, OwnSession, Thread};
 use cp_events::{Plan, UserOp};
 use std::alloc::Global;
 use std::collections::BTreeMap;
 use std::marker::Model;
-
-/// Numbers of requests, and clocks, end here.
-const LAST: u64 = 1 << 62;
 
 /// A client, which contracts see as the definitions' client. After want of memory in a step, it is only dropped.
 #[derive(Drop)]
@@ -80,8 +78,8 @@ impl Client {
     pub fn has_room(&self, thread: ThreadNo) -> bool
         ensures { IsTrue result → HasRoom thread self.now }
     {
-        self.clock <= LAST
-            && threads::number_of(&self.threads, thread) < LAST
+        self.clock <= LAST_NUMBER
+            && threads::number_of(&self.threads, thread) < LAST_NUMBER
             && holds::have_room(&self.holds)
     }
 
@@ -117,7 +115,7 @@ impl Client {
 
     /// The clock moves by so many milliseconds.
     pub fn tick(&mut self, me: ClientId, ms: u32, out: &mut ClientOut) -> Result<(), NoMemory>
-        requires { self.old.clock + ms ≤ 2 ^ 62 }
+        requires { self.old.clock + ms ≤ LAST_NUMBER }
         ensures { OnOk result (Gives (tick_client me ms self.old) self.new out.old out.new) }
     {
         ticking::tick(self, me, ms, out)

@@ -1,5 +1,6 @@
 //! A call becomes requests.
-ghost use Rattle.std.specs.Prelude.{◌≡◌, ◌≤◌, ◌<◌, ◌+◌, ◌^◌, IfOk, OnOk};
+ghost use Rattle.cp_base.specs.declared.limits.TheConstants.{LAST_NUMBER};
+ghost use Rattle.std.specs.Prelude.{◌≡◌, ◌≤◌, ◌<◌, ◌+◌, IfOk, OnOk};
 ghost use Rattle.cp_client_rules.specs.Clients.{ask, done_at_once, session_in_group, thread_at};
 ghost use Rattle.cp_client_rules.specs.Calls.{ask_itself, by_need, call_client, closing, deadline_of, go_on, holding_session, in_session, pending_of};
 ghost use Rattle.cp_client.specs.Calling.{call_of, need_is};
@@ -22,7 +23,7 @@ use cp_ops::{LatchOp, Op, SessionOp};
 const PATIENCE: u64 = 60_000;
 
 fn deadline_of(clock: u64, wish: Option<u32>) -> Option<u64>
-    requires { clock ≤ 2 ^ 62 }
+    requires { clock ≤ LAST_NUMBER }
     ensures { result ≡ deadline_of clock wish }
 {
     match wish {
@@ -33,7 +34,7 @@ fn deadline_of(clock: u64, wish: Option<u32>) -> Option<u64>
 
 /// The number that the thread's next request takes.
 fn next_number(client: &Client, thread: ThreadNo) -> u64
-    requires { (thread_at client.now thread).number < 2 ^ 62 }
+    requires { (thread_at client.now thread).number < LAST_NUMBER }
     ensures { result ≡ (thread_at client.now thread).number + 1 }
 {
     threads::number_of(&client.threads, thread) + 1
@@ -49,7 +50,7 @@ pub fn ask(
     op: Op,
     out: &mut ClientOut,
 ) -> Result<(), NoMemory>
-    requires { (thread_at client.old thread).number < 2 ^ 62 }
+    requires { (thread_at client.old thread).number < LAST_NUMBER }
     ensures { OnOk result (Gives (ask me thread now op client.old) client.new out.old out.new) }
 {
     let number = next_number(client, thread);
@@ -70,7 +71,7 @@ pub fn ask(
 /// A call that is done without a request takes a number too.
 #[tactic(auto, using(crate::proofs::Steps::same))]
 fn done_at_once(client: &mut Client, thread: ThreadNo, out: &mut ClientOut) -> Result<(), NoMemory>
-    requires { (thread_at client.old thread).number < 2 ^ 62 }
+    requires { (thread_at client.old thread).number < LAST_NUMBER }
     ensures { OnOk result (Gives (done_at_once thread client.old) client.new out.old out.new) }
 {
     let number = next_number(client, thread);
@@ -95,7 +96,7 @@ fn ask_for(
     op: Op,
     out: &mut ClientOut,
 ) -> Result<(), NoMemory>
-    requires { (thread_at client.old call.thread).number < 2 ^ 62 }
+    requires { (thread_at client.old call.thread).number < LAST_NUMBER }
     ensures { OnOk result (Gives (ask me call.thread (pending_of (call_of call) purpose) op client.old) client.new out.old out.new) }
 {
     let thread = call.thread;
@@ -112,7 +113,7 @@ pub fn ask_itself(
     round: u64,
     out: &mut ClientOut,
 ) -> Result<(), NoMemory>
-    requires { (thread_at client.old call.thread).number < 2 ^ 62 }
+    requires { (thread_at client.old call.thread).number < LAST_NUMBER }
     ensures { OnOk result (Gives (ask_itself plan.now me (call_of call) session round client.old) client.new out.old out.new) }
 {
     let op = op_of(plan, &call.op, session, round)?;
@@ -128,7 +129,7 @@ fn in_session(
     session: Option<u64>,
     out: &mut ClientOut,
 ) -> Result<(), NoMemory>
-    requires { (thread_at client.old call.thread).number < 2 ^ 62 }
+    requires { (thread_at client.old call.thread).number < LAST_NUMBER }
     ensures { OnOk result (Gives (in_session plan.now me (call_of call) session client.old) client.new out.old out.new) }
 {
     match session {
@@ -153,7 +154,7 @@ fn closing(
     session: Option<u64>,
     out: &mut ClientOut,
 ) -> Result<(), NoMemory>
-    requires { (thread_at client.old call.thread).number < 2 ^ 62 }
+    requires { (thread_at client.old call.thread).number < LAST_NUMBER }
     ensures { OnOk result (Gives (closing plan.now me (call_of call) session client.old) client.new out.old out.new) }
 {
     match session {
@@ -188,7 +189,7 @@ fn by_need(
     call: Call,
     out: &mut ClientOut,
 ) -> Result<(), NoMemory>
-    requires { (thread_at client.old call.thread).number < 2 ^ 62 }
+    requires { (thread_at client.old call.thread).number < LAST_NUMBER }
     ensures { OnOk result (Gives (by_need plan.now me (need_is need) (call_of call) client.old) client.new out.old out.new) }
 {
     match need {
@@ -224,7 +225,7 @@ pub fn go_on(
     call: Call,
     out: &mut ClientOut,
 ) -> Result<(), NoMemory>
-    requires { (thread_at client.old call.thread).number < 2 ^ 62 }
+    requires { (thread_at client.old call.thread).number < LAST_NUMBER }
     ensures { OnOk result (Gives (go_on plan.now me (call_of call) client.old) client.new out.old out.new) }
 {
     let need = need_of(&call.op)?;

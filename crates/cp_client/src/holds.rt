@@ -1,5 +1,5 @@
 //! What an answer does to a thread's record of a lock that it holds.
-ghost use Rattle.std.specs.Prelude.{◌≡◌, ◌<◌, ◌^◌, ℕ, IsTrue, IfOk, OnOk};
+ghost use Rattle.std.specs.Prelude.{◌≡◌, ◌<◌, ℕ, IsTrue, IfOk, OnOk};
 ghost use Rattle.cp_group_state.specs.Rows.{find};
 ghost use Rattle.cp_client_rules.specs.Clients.{lock_cmp};
 ghost use Rattle.cp_client_rules.specs.Holds.{ends_holding, held_after, holding, is_lock, is_owner, is_unlock, lowered, raised};
@@ -9,6 +9,7 @@ ghost use Rattle.cp_client.specs.Rooms.{HoldsHaveRoom};
 
 use crate::call::Call;
 use cp_answers::Answer;
+use cp_base::limits::LAST_NUMBER;
 use cp_base::{GroupId, Name, NoMemory, ThreadNo};
 use cp_client_rules::{HoldRecord, Purpose};
 use cp_events::{LockCall, UserOp};
@@ -52,7 +53,7 @@ pub fn record_of(holds: &BTreeMap<LockKey, HoldRecord>, key: &LockKey) -> Option
 pub fn have_room(holds: &BTreeMap<LockKey, HoldRecord>) -> bool
     ensures { IsTrue result → HoldsHaveRoom holds.now.entries }
 {
-    holds.values().all(|record| record.holds < 1 << 62)
+    holds.values().all(|record| record.holds < LAST_NUMBER)
 }
 
 /// One hold more.
@@ -211,8 +212,10 @@ pub fn holding(
     answer: Answer,
 ) -> Result<Answer, NoMemory>
     requires { HoldsHaveRoom holds.old.entries }
-    ensures holds { OnOk result (holds.new.entries ≡ (holding call.now.thread call.now.group call.now.op purpose answer holds.old.entries).holds) }
-    ensures answer { IfOk result (λ last. last ≡ (holding call.now.thread call.now.group call.now.op purpose answer holds.old.entries).answer) }
+    ensures holds { OnOk result (holds.new.entries
+        ≡ (holding call.now.thread call.now.group call.now.op purpose answer holds.old.entries).holds) }
+    ensures answer { IfOk result (λ last. last
+        ≡ (holding call.now.thread call.now.group call.now.op purpose answer holds.old.entries).answer) }
 {
     match &call.op {
         UserOp::Lock(object, lock) => match purpose {

@@ -23,7 +23,8 @@ pub fn number_of(threads: &BTreeMap<u8, Thread>, thread: ThreadNo) -> u64
 
 /// The number of the thread's open request, if it has one.
 pub fn open_number(threads: &BTreeMap<u8, Thread>, thread: ThreadNo) -> Option<u64>
-    ensures { result ≡ open_number (or_new (find nat_cmp threads.now.entries thread.0)).number (or_new (find nat_cmp threads.now.entries thread.0)).pending }
+    ensures { result ≡ open_number (or_new (find nat_cmp threads.now.entries thread.0)).number (or_new (find nat_cmp
+        threads.now.entries thread.0)).pending }
 {
     match threads.get(&thread.0) {
         Some(
@@ -49,7 +50,8 @@ pub fn is_open(threads: &BTreeMap<u8, Thread>, request: &Invocation) -> bool
 /// Takes the open request of a thread out.
 pub fn take_pending(threads: &mut BTreeMap<u8, Thread>, thread: ThreadNo) -> Option<Pending>
     ensures pending { result ≡ (or_new (find nat_cmp threads.old.entries thread.0)).pending }
-    ensures rows { IfSome result (λ now. threads.new.entries ≡ put nat_cmp threads.old.entries thread.0 (idle_row (or_new (find nat_cmp threads.old.entries thread.0)))) }
+    ensures rows { IfSome result (λ now. threads.new.entries
+        ≡ put nat_cmp threads.old.entries thread.0 (idle_row (or_new (find nat_cmp threads.old.entries thread.0)))) }
 {
     match threads.get_mut(&thread.0) {
         Some(row) => {

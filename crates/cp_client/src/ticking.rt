@@ -1,5 +1,5 @@
 //! The clock of a client moves.
-ghost use Rattle.std.specs.Prelude.{◌≡◌, ◌≤◌, ◌<◌, ◌+◌, ◌^◌, IfOk, OnOk};
+ghost use Rattle.std.specs.Prelude.{◌≡◌, ◌≤◌, ◌<◌, ◌+◌, IfOk, OnOk};
 ghost use Rattle.std.specs.Ordering.{nat_cmp};
 ghost use Rattle.cp_group_state.specs.Rows.{find};
 ghost use Rattle.cp_client_rules.specs.Clients.{or_new, thread_at};
@@ -12,6 +12,7 @@ use crate::going::ask;
 use crate::output::ClientOut;
 use crate::threads;
 use cp_answers::{Answer, EndedBy};
+use cp_base::limits::LAST_NUMBER;
 use cp_base::{ClientId, GroupId, NoMemory, ThreadNo};
 use cp_client_rules::{OwnSession, Pending, Purpose, Task, Thread};
 use cp_events::{Ending, Return};
@@ -21,9 +22,6 @@ use std::collections::BTreeMap;
 
 /// How long a session goes without a beat, in milliseconds.
 const BEAT_AFTER: u64 = 5_000;
-
-/// Numbers of requests end here.
-const LAST_NUMBER: u64 = 1 << 62;
 
 /// The client's own thread, which sends beats.
 const OWN_THREAD: ThreadNo = ThreadNo(0);
@@ -92,7 +90,7 @@ fn beat(
     own: OwnSession,
     out: &mut ClientOut,
 ) -> Result<(), NoMemory>
-    requires { (thread_at client.old own_thread).number < 2 ^ 62 }
+    requires { (thread_at client.old own_thread).number < LAST_NUMBER }
     ensures { OnOk result (Gives (beat me group own client.old) client.new out.old out.new) }
 {
     let beaten = OwnSession {
@@ -168,14 +166,14 @@ fn beats(client: &mut Client, me: ClientId, out: &mut ClientOut) -> Result<(), N
 }
 
 fn move_clock(client: &mut Client, ms: u32)
-    requires { client.old.clock + ms ≤ 2 ^ 62 }
+    requires { client.old.clock + ms ≤ LAST_NUMBER }
     ensures { client.new ≡ record client.old { clock = client.old.clock + ms } }
 {
     client.clock += u64::from(ms);
 }
 
 fn end_calls(client: &mut Client, ms: u32, out: &mut ClientOut) -> Result<(), NoMemory>
-    requires { client.old.clock + ms ≤ 2 ^ 62 }
+    requires { client.old.clock + ms ≤ LAST_NUMBER }
     ensures { OnOk result (Gives (end_calls ms client.old) client.new out.old out.new) }
 {
     move_clock(client, ms);
@@ -195,7 +193,7 @@ fn end_calls(client: &mut Client, ms: u32, out: &mut ClientOut) -> Result<(), No
 /// First calls end at their deadlines, thread by thread. Then the beats that are due are asked, by group.
 #[tactic(auto, using(crate::proofs::Steps::then_gives, crate::proofs::Steps::same))]
 pub fn tick(client: &mut Client, me: ClientId, ms: u32, out: &mut ClientOut) -> Result<(), NoMemory>
-    requires { client.old.clock + ms ≤ 2 ^ 62 }
+    requires { client.old.clock + ms ≤ LAST_NUMBER }
     ensures { OnOk result (Gives (tick_client me ms client.old) client.new out.old out.new) }
 {
     end_calls(client, ms, out)?;

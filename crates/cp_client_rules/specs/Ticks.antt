@@ -1,5 +1,6 @@
 -- The clock of a client moves.
-use Rattle.std.specs.Prelude.{ℕ, ◌+◌, ◌-◌, ◌^◌, Bool, false, not, ◌&&◌, List, [], ◌∷◌, Option, Some, None, if◌then◌else◌, nat_lt}
+use Rattle.cp_base.specs.declared.limits.TheConstants.{LAST_NUMBER}
+use Rattle.std.specs.Prelude.{ℕ, ◌+◌, ◌-◌, Bool, false, not, ◌&&◌, List, [], ◌∷◌, Option, Some, None, if◌then◌else◌, nat_lt}
 use Rattle.std.specs.Ordering.{nat_cmp}
 use Rattle.cp_base.specs.declared.identifier.ClientId.{ClientId}
 use Rattle.cp_base.specs.declared.identifier.ThreadNo.{ThreadNo}
@@ -47,7 +48,7 @@ beat_after = 5000
 
 -- A beat is due where the last one, or the opening, is that long ago. Numbers of requests end at 2 ^ 62.
 abbrev pub is_due : OwnSession → Client → Bool
-is_due own c = not (nat_lt (c.clock - own.beat) beat_after) && nat_lt (thread_at c own_thread).number (2 ^ 62)
+is_due own c = not (nat_lt (c.clock - own.beat) beat_after) && nat_lt (thread_at c own_thread).number LAST_NUMBER
 
 module _ (me : ClientId) where
   -- the beat of the session of a group

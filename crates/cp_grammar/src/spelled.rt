@@ -70,5 +70,6 @@ pub fn write<T: Spelled>(value: &T, out: &mut Vec<u8>) -> Result<(), NoMemory>
 
 /// No spelling begins another, so what was written is read again and the rest is left.
 pub fn no_spelling_begins_another<T: Spelled>()
-    ensures { (x y : T) (a b : List ℕ) → T.grammar.Fits x → T.grammar.Fits y → T.grammar.spelling x ++ a ≡ T.grammar.spelling y ++ b → (x ≡ y) × (a ≡ b) }
+    ensures { (x y : T) (a b : List ℕ) → T.grammar.Fits x → T.grammar.Fits y → T.grammar.spelling x ++ a
+        ≡ T.grammar.spelling y ++ b → (x ≡ y) × (a ≡ b) }
 {}

@@ -83,7 +83,8 @@ fn read_digit(word: &[u8]) -> Option<u64>
 /// The number that a word spells, with no leading zero.
 #[tactic(auto, unfolding(crate::specs::Words::is_decimal))]
 pub fn read_own_decimal(word: &[u8]) -> Option<u64>
-    ensures { MatchOption result (IsTrue (is_decimal word.now) → 2 ^ 64 ≤ digits_value 10 word.now) (λ n. IsTrue (is_decimal word.now) × (n ≡ digits_value 10 word.now)) }
+    ensures { MatchOption result (IsTrue (is_decimal word.now) → 2 ^ 64 ≤ digits_value 10 word.now) (λ n.
+        IsTrue (is_decimal word.now) × (n ≡ digits_value 10 word.now)) }
 {
     // Most numbers of a text are small.
     if let Some(n) = read_digit(word) {

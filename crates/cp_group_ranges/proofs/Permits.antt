@@ -190,7 +190,7 @@ module _ (key : Object) (row : SemaphoreRow) (s : Semaphores) (h : PermitsKept s
 abbrev pub SemSays : SemOutcome → Type 0
 SemSays (Done a) = answer_grammar.Fits a
 SemSays Wants = Unit {0}
-SemSays (Served a) = answer_grammar.Fits a
+SemSays (Served a available) = answer_grammar.Fits a
 
 abbrev StepFits : Semaphores → SemStep → Type 0
 StepFits s r = Parts s r.after × SemSays r.outcome

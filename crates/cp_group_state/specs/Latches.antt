@@ -9,6 +9,8 @@ use Rattle.cp_object_ops.specs.declared.latch_op.LatchOp.TheVariants as latch
 use Rattle.cp_group_state.specs.Rows.{Named, find, put, has_room, most, name_cmp}
 use Rattle.cp_group_state.specs.Waiters.{same_call}
 pub use Rattle.cp_group_state.specs.declared.rows.LatchRow.{LatchRow}
+pub use Rattle.cp_group_state.specs.declared.outcome.LatchOutcome.{LatchOutcome}
+pub use Rattle.cp_group_state.specs.declared.outcome.LatchOutcome.TheVariants.{Done, Wants, Opened}
 
 abbrev pub new_latch : LatchRow
 new_latch = record { round = 0; count = 0; counted = [] }
@@ -30,12 +32,7 @@ counted_calls rows = sum (map (λ e. length e.1.counted) rows)
 abbrev pub most_counted : ℕ
 most_counted = 100000
 
--- what a call leads to: an answer, a wait, or an answer with which the latch opens
-pub data LatchOutcome : Type 0 where
-  Done : Answer → LatchOutcome
-  Wants : LatchOutcome
-  Opened : LatchOutcome
-
+-- the rows after a call, and what it leads to
 pub record LatchStep : Type 0 where
   pub after : Named LatchRow
   pub outcome : LatchOutcome

@@ -12,6 +12,8 @@ use Rattle.cp_group_state.specs.Rows.{Object, find, put, without, has_room, most
 use Rattle.cp_group_state.specs.Waiters.{Waiter, waits_on}
 use Rattle.cp_group_state.specs.Sessions.{is_among}
 pub use Rattle.cp_group_state.specs.declared.rows.SemaphoreRow.{SemaphoreRow}
+pub use Rattle.cp_group_state.specs.declared.outcome.SemOutcome.{SemOutcome}
+pub use Rattle.cp_group_state.specs.declared.outcome.SemOutcome.TheVariants.{Done, Wants, Served}
 
 pub record Semaphores : Type 0 where
   pub rows : List (Object × SemaphoreRow)
@@ -51,12 +53,7 @@ give_back key row session n s = record {
 abbrev pub change_total : Object → SemaphoreRow → ℤ → Semaphores → Semaphores
 change_total key row n s = record { rows = put object_cmp s.rows key (record { total = row.total +ℤ n; available = row.available +ℤ n }); holdings = s.holdings }
 
--- what a call leads to: an answer, a wait, or permits that came and an answer
-pub data SemOutcome : Type 0 where
-  Done : Answer → SemOutcome
-  Wants : SemOutcome
-  Served : Answer → SemOutcome
-
+-- the rows after a call, and what it leads to; where permits came, also what stands available then
 pub record SemStep : Type 0 where
   pub after : Semaphores
   pub outcome : SemOutcome
@@ -69,12 +66,12 @@ at_least_none (negsuc n) = 0
 abbrev pub raise_total : Object → SemaphoreRow → ℕ → Semaphores → SemStep
 raise_total key row n s = if int_lt (pos (2 ^ 31 - 1)) (row.total +ℤ pos n)
     then record { after = s; outcome = Done (answer.BadArgument argument.Overflow) }
-    else record { after = change_total key row (pos n) s; outcome = Served answer.Ok }
+    else record { after = change_total key row (pos n) s; outcome = Served answer.Ok (row.available +ℤ pos n) }
 
 abbrev pub release_held : Object → SemaphoreRow → ℕ → ℕ → Semaphores → SemStep
 release_held key row session n s = if nat_lt (held s.holdings session key.0) n
     then record { after = s; outcome = Done (answer.NotHeld (held s.holdings session key.0)) }
-    else record { after = give_back key row session n s; outcome = Served answer.Ok }
+    else record { after = give_back key row session n s; outcome = Served answer.Ok (row.available +ℤ pos n) }
 
 abbrev pub init : Object → ℕ → Semaphores → SemStep
 init key n s = if has_room object_cmp most s.rows key

@@ -11,10 +11,9 @@ ghost use Rattle.cp_group_tables.specs.Endings.{ended_by};
 use crate::ending::Ending;
 use crate::named::session_in;
 use crate::recall::{Recall, look_back};
-use crate::reply::Reply;
 use crate::tables::GroupTables;
 use cp_base::{Invocation, Items, NoMemory};
-use cp_group_state::Waiter;
+use cp_group_state::{Reply, Waiter};
 use cp_ops::{Answer, Op};
 use cp_wait::WaitError;
 
@@ -109,7 +108,7 @@ impl GroupTables {
     }
 
     /// Does a call that is neither repeated nor late.
-    #[tactic(auto, using(crate::proofs::RuleCases::settled_answer, crate::proofs::RuleCases::settled_wait))]
+    #[tactic(auto, using(crate::proofs::RuleCases::settled_answer, crate::proofs::RuleCases::settled_wait, crate::proofs::RuleCases::own_call))]
     fn perform(
         &mut self,
         index: u64,

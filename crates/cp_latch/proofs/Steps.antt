@@ -21,7 +21,8 @@ use Rattle.cp_latch.specs.declared.rounds.Begun.TheVariants as begun
 use Rattle.cp_latch.specs.declared.rounds.Down.{Down}
 use Rattle.cp_latch.specs.declared.rounds.Down.TheVariants as down
 use Rattle.cp_latch.specs.Rounds.{AreRounds, with_row, IsBegun, IsBegunIn, IsDown, IsDownIn}
-use Rattle.cp_rows.proofs.Changes.{put_there, rises_one}
+use Rattle.cp_rows.proofs.Ordered.{put_there}
+use Rattle.cp_rows.proofs.Changes.{rises_one}
 use Rattle.cp_latch.proofs.Totals.{calls_written, same_total}
 
 -- the row under a name, and the rows with another one written there

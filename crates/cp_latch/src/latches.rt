@@ -4,29 +4,17 @@ ghost use Rattle.cp_answers.specs.declared.answer.Answer.TheVariants as answer;
 ghost use Rattle.cp_group_state.specs.Rows.{without, name_cmp};
 ghost use Rattle.cp_group_state.specs.Invariants.{IsRising};
 ghost use Rattle.cp_group_state.specs.Latches.{Done, Wants, Opened, counted_calls, latch_at, set_latch, count_down, latch_step};
-ghost use Rattle.cp_latch.specs.Outcomes.{IsOutcome};
 ghost use Rattle.cp_latch.specs.Rounds.{AreRounds};
 
 use crate::Latch;
 use crate::rounds::{Begun, Down, begin_in, down_in, first_round, make_row};
 use cp_base::{Invocation, Items, Name, NoMemory};
-use cp_group_state::LatchRow;
+use cp_group_state::{LatchOutcome, LatchRow};
 use cp_ops::{Answer, LatchOp};
 use cp_rows::from_rows;
 use std::alloc::Global;
 use std::collections::BTreeMap;
 use std::marker::Model;
-
-/// What a call on a latch leads to.
-#[derive(Clone, Debug, PartialEq, Eq, Drop)]
-pub enum LatchOutcome {
-    /// An answer.
-    Done(Answer),
-    /// A wait, or `TimedOut` where the call may not wait.
-    Wants,
-    /// The answer `Ok`, with which the latch opens: all that wait for it are answered.
-    Opened,
-}
 
 /// The latches of a group, which contracts see as the list of names and rows by rising name. A latch that was never
 /// set has no row.
@@ -87,7 +75,7 @@ fn count_down(
 ) -> Result<LatchOutcome, NoMemory>
     requires { total.old ≡ counted_calls rows.old.entries }
     ensures rows { OnOk result (rows.new.entries ≡ (count_down rows.old.entries name.now call.now round (latch_at rows.old.entries name.now)).after) }
-    ensures outcome { IfOk result (λ outcome. IsOutcome outcome (count_down rows.old.entries name.now call.now round (latch_at rows.old.entries name.now)).outcome) }
+    ensures outcome { IfOk result (λ outcome. outcome ≡ (count_down rows.old.entries name.now call.now round (latch_at rows.old.entries name.now)).outcome) }
     ensures err { OnErr result (rows.new.entries ≡ rows.old.entries) }
     ensures total { total.new ≡ counted_calls rows.new.entries }
 {
@@ -104,7 +92,7 @@ fn count_down(
 
 /// What a countdown that was counted leads to.
 fn outcome_of(opens: bool) -> LatchOutcome
-    ensures { IsOutcome result (if opens then Opened else Done answer.Ok) }
+    ensures { result ≡ (if opens then Opened else Done answer.Ok) }
 {
     if opens {
         LatchOutcome::Opened
@@ -159,7 +147,7 @@ fn latches_of(
 
 /// What an await leads to.
 fn awaited(count: u32) -> LatchOutcome
-    ensures { IsOutcome result (if count == 0 then Done (answer.Bool true) else Wants) }
+    ensures { result ≡ (if count == 0 then Done (answer.Bool true) else Wants) }
 {
     if count == 0 {
         LatchOutcome::Done(Answer::Bool(true))
@@ -235,7 +223,7 @@ impl Latches {
         op: &LatchOp,
     ) -> Result<LatchOutcome, NoMemory>
         ensures rows { OnOk result (self.new ≡ (latch_step self.old name.now call.now op.now).after) }
-        ensures outcome { IfOk result (λ outcome. IsOutcome outcome (latch_step self.old name.now call.now op.now).outcome) }
+        ensures outcome { IfOk result (λ outcome. outcome ≡ (latch_step self.old name.now call.now op.now).outcome) }
         ensures err { OnErr result (self.new ≡ self.old) }
     {
         match *op {

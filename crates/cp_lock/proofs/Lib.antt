@@ -1,4 +1,3 @@
 pub mod Well
 pub mod Sessions
 pub mod Standing
-pub mod Whole

@@ -169,7 +169,8 @@ pub fn append_key_and_values(
     second: &Items<u8>,
     out: &mut Vec<u8>,
 ) -> Result<(), NoMemory>
-    ensures ok { OnOk result (out.new.items ≡ out.old.items ++ (words.now ++ hex_text key.now ++ 32 ∷ hex_text first.now ++ 32 ∷ hex_text second.now)) }
+    ensures ok { OnOk result (out.new.items ≡ out.old.items
+        ++ (words.now ++ hex_text key.now ++ 32 ∷ hex_text first.now ++ 32 ∷ hex_text second.now)) }
     ensures grew { Grew out.old.items out.new.items }
 {
     append_key_and_value(words, key, first, out)?;

@@ -222,7 +222,8 @@ impl Entry {
 
 /// No spelling of an entry begins another, so what was written is read again and the rest is left.
 pub fn no_entry_begins_another()
-    ensures { (x y : Entry) (a b : List ℕ) → entry_grammar.Fits x → entry_grammar.Fits y → entry_grammar.spelling x ++ a ≡ entry_grammar.spelling y ++ b → (x ≡ y) × (a ≡ b) }
+    ensures { (x y : Entry) (a b : List ℕ) → entry_grammar.Fits x → entry_grammar.Fits y → entry_grammar.spelling x ++ a
+        ≡ entry_grammar.spelling y ++ b → (x ≡ y) × (a ≡ b) }
 {
     cp_grammar::no_spelling_begins_another::<Entry>()
 }

@@ -292,7 +292,8 @@ impl Op {
 
 /// No spelling of an op begins another, so what was written is read again and the rest is left.
 pub fn no_op_begins_another()
-    ensures { (x y : Op) (a b : List ℕ) → op_grammar.Fits x → op_grammar.Fits y → op_grammar.spelling x ++ a ≡ op_grammar.spelling y ++ b → (x ≡ y) × (a ≡ b) }
+    ensures { (x y : Op) (a b : List ℕ) → op_grammar.Fits x → op_grammar.Fits y → op_grammar.spelling x ++ a
+        ≡ op_grammar.spelling y ++ b → (x ≡ y) × (a ≡ b) }
 {
     cp_grammar::no_spelling_begins_another::<Op>()
 }

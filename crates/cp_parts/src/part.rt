@@ -196,7 +196,8 @@ pub fn state_bytes(group: GroupId, term: u64, vote: u8) -> [u8; STATE_BYTES]
 
 /// No spelling of a part begins another, so what was written is read again and the rest is left.
 pub fn no_part_begins_another()
-    ensures { (x y : Part) (a b : List ℕ) → part_grammar.Fits x → part_grammar.Fits y → part_grammar.spelling x ++ a ≡ part_grammar.spelling y ++ b → (x ≡ y) × (a ≡ b) }
+    ensures { (x y : Part) (a b : List ℕ) → part_grammar.Fits x → part_grammar.Fits y → part_grammar.spelling x ++ a
+        ≡ part_grammar.spelling y ++ b → (x ≡ y) × (a ≡ b) }
 {
     cp_grammar::no_spelling_begins_another::<Part>()
 }

@@ -3,5 +3,6 @@ pub mod Timing
 pub mod Lawful
 pub mod Restoring
 pub mod States
+pub mod ObjectRows
 pub mod Reads
 pub mod Laws

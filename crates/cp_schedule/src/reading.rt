@@ -1,5 +1,6 @@
 //! Reads a schedule, or finds the first line that is none.
-ghost use Rattle.std.specs.Prelude.{◌≡◌, ◌≤◌, ◌<◌, ◌^◌, ◌==◌, length, count_by, Ok, IfOk};
+ghost use Rattle.cp_base.specs.declared.limits.TheConstants.{LAST_NUMBER};
+ghost use Rattle.std.specs.Prelude.{◌≡◌, ◌≤◌, ◌<◌, ◌==◌, length, count_by, Ok, IfOk};
 ghost use Rattle.cp_grammar.specs.Grammar.{whole};
 ghost use Rattle.cp_grammar.specs.Words.{line_of};
 ghost use Rattle.cp_grammar.specs.Readers.{Reads, Tells};
@@ -147,7 +148,7 @@ fn header_lines(plan: &Plan) -> u64
 /// The line of the n-th line behind the header, where n counts from 0, and lines from 1.
 pub fn line_of_event(plan: &Plan, n: u64) -> u64
     requires limits { length plan.now.limits ≤ 16 }
-    requires place { n < 2 ^ 62 }
+    requires place { n < LAST_NUMBER }
     ensures { result ≡ line_of_event plan.now n }
 {
     header_lines(plan) + n + 1

@@ -1,4 +1,5 @@
 -- How far a run may go.
+use Rattle.cp_base.specs.declared.limits.TheConstants.{MOST_TEXT}
 use Rattle.std.specs.Prelude.{◌≡◌, ◌≤◌, ◌+◌, ℕ, List, length, take, slice_get, Option, Some, None, if◌then◌else◌, nat_lt}
 use Rattle.cp_events.specs.declared.event.Event.{Event}
 use Rattle.cp_events.specs.declared.plan.Plan.{Plan}
@@ -15,7 +16,7 @@ use Rattle.cp_tool.specs.declared.status.LimitName.TheVariants as limit
 abbrev pub beyond : ℕ → ℕ → Option LimitName
 beyond events bytes =
     if nat_lt 100000 events then Some limit.Events
-    else if nat_lt 268435456 bytes then Some limit.Transcript
+    else if nat_lt MOST_TEXT bytes then Some limit.Transcript
     else None
 
 -- the transcript of a schedule with these events

@@ -1,4 +1,5 @@
 //! The top call.
+ghost use Rattle.cp_base.specs.declared.limits.TheConstants.{MOST_SOURCE};
 ghost use Rattle.std.specs.Prelude.{◌≡◌, ◌↔◌, ◌≤◌, ◌⊎◌, ℕ, codes, length, map, string_bytes, IfSome, IsTrue, Err};
 ghost use Rattle.std.specs.Io.KnownBytes.{IsAtEnd};
 ghost use Rattle.cp_base.specs.Faults.{Exceeds, Rose};
@@ -46,16 +47,20 @@ pub fn run<S: Source, K: Sink, D: CrashDisk>(
     ensures usage { (result ≡ Status.Usage) ↔ (¬ IsReplay (map string_bytes words.now)) }
     ensures unread { result ≡ Status.Usage → source.new ≡ source.old }
     ensures read_fault { result ≡ Status.ReadFault → Rose (S.faults source.old) (S.faults source.new) }
-    ensures too_long { result ≡ Status.TooLong → Exceeds (S.left source.old) 16777216 }
-    ensures bad_schedule { (line : ℕ) → result ≡ Status.BadSchedule line → IfSome (S.left source.old) (λ bytes. schedule_of bytes ≡ Err (BadLine line)) }
-    ensures not_built { (line : ℕ) → result ≡ Status.NotBuilt line → IfSome (S.left source.old) (λ bytes. schedule_of bytes ≡ Err (NotBuilt line)) }
+    ensures too_long { result ≡ Status.TooLong → Exceeds (S.left source.old) MOST_SOURCE }
+    ensures bad_schedule { (line : ℕ) → result ≡ Status.BadSchedule line
+        → IfSome (S.left source.old) (λ bytes. schedule_of bytes ≡ Err (BadLine line)) }
+    ensures not_built { (line : ℕ) → result ≡ Status.NotBuilt line
+        → IfSome (S.left source.old) (λ bytes. schedule_of bytes ≡ Err (NotBuilt line)) }
     ensures limit { (line : ℕ) (name : LimitName) → result ≡ Status.Limit line name → IfSome (S.left source.old) (Limits line name) }
     ensures write_fault { result ≡ Status.WriteFault → Rose (K.faults sink.old) (K.faults sink.new) }
 
     // What was read and written by then.
-    ensures read_to_end { IsAfterReading result → IsAtEnd (S.left source.new) × IfSome (S.left source.old) (λ bytes. length bytes ≤ 16777216) }
+    ensures read_to_end { IsAfterReading result → IsAtEnd (S.left source.new)
+        × IfSome (S.left source.old) (λ bytes. length bytes ≤ MOST_SOURCE) }
     ensures unwritten { IsBeforeWrites result → sink.new ≡ sink.old }
-    ensures front { result ≡ Status.WriteFault → IfSome (S.left source.old) (λ bytes. ReplaysFront bytes (K.written sink.old) (K.written sink.new)) }
+    ensures front { result ≡ Status.WriteFault
+        → IfSome (S.left source.old) (λ bytes. ReplaysFront bytes (K.written sink.old) (K.written sink.new)) }
     ensures disks { disks.new ≡ disks.old }
     ensures no_memory { result ≡ Status.NoMemory → (sink.new ≡ sink.old)
         ⊎ IfSome (S.left source.old) (λ bytes. ReplaysFront bytes (K.written sink.old) (K.written sink.new)) }

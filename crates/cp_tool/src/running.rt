@@ -1,5 +1,6 @@
 //! Runs a schedule event by event, and makes its transcript.
-ghost use Rattle.std.specs.Prelude.{◌≡◌, ◌≤◌, ◌<◌, ◌+◌, ◌^◌, ◌++◌, ◌∷◌, List, [], length, IfErr, IfOk, MatchResult, OnOk};
+ghost use Rattle.cp_base.specs.declared.limits.TheConstants.{LAST_NUMBER};
+ghost use Rattle.std.specs.Prelude.{◌≡◌, ◌≤◌, ◌<◌, ◌+◌, ◌++◌, ◌∷◌, List, [], length, IfErr, IfOk, MatchResult, OnOk};
 ghost use Rattle.cp_events.specs.declared.effects.Effects.{Effects};
 ghost use Rattle.cp_events.specs.declared.event.Event.{Event};
 ghost use Rattle.cp_events.specs.declared.plan.Plan.{Plan};
@@ -65,7 +66,7 @@ fn open(alloc: Global) -> Result<Running, NoMemory>
 
 /// What an event shows, and the entries that it committed.
 fn print(transcript: &mut TranscriptWriter, event: &Event, turn: &Turn) -> Result<(), NoMemory>
-    requires { transcript.old.rows + length turn.now.entries < 2 ^ 62 }
+    requires { transcript.old.rows + length turn.now.entries < LAST_NUMBER }
     ensures { OnOk result ((shown : List Effects) (history : List Committed) → Tells shown history transcript.old
         → Tells (shown ++ effects_of event.now turn.now ∷ []) (history ++ committed_at turn.now.number turn.now.entries) transcript.new) }
 {
@@ -83,7 +84,8 @@ fn print(transcript: &mut TranscriptWriter, event: &Event, turn: &Turn) -> Resul
 /// An event happens, and is printed.
 fn show(running: &mut Running, plan: &Plan, event: &Event) -> Result<(), NoMemory>
     requires { IsRunning plan.now running.old }
-    ensures { OnOk result ((events : List Event) → Follows plan.now events running.old → Follows plan.now (events ++ event.now ∷ []) running.new) }
+    ensures { OnOk result ((events : List Event) → Follows plan.now events running.old
+        → Follows plan.now (events ++ event.now ∷ []) running.new) }
 {
     running.world.step(plan, event, &mut running.turn)?;
     print(&mut running.transcript, event, &running.turn)?;
@@ -134,7 +136,7 @@ fn run_line(running: &mut Running, plan: &Plan, line: &Line) -> Result<(), Halt>
 
 fn run_lines(running: &mut Running, plan: &Plan, lines: &[Line]) -> Result<(), Stop>
     requires begun { Runs plan.now [] running.old }
-    requires few { length lines.now < 2 ^ 62 }
+    requires few { length lines.now < LAST_NUMBER }
     requires limits { length plan.now.limits ≤ 16 }
     ensures ok { OnOk result (Runs plan.now (events_of lines.now) running.new) }
     ensures kept { OnOk result (KeepsLimits plan.now lines.now (length lines.now)) }
@@ -153,7 +155,7 @@ fn run_lines(running: &mut Running, plan: &Plan, lines: &[Line]) -> Result<(), S
 
 /// The transcript of a schedule, or why it has none.
 pub fn transcript(alloc: Global, schedule: Schedule) -> Result<Vec<u8>, Stop>
-    requires few { length schedule.lines < 2 ^ 62 }
+    requires few { length schedule.lines < LAST_NUMBER }
     requires limits { length schedule.plan.limits ≤ 16 }
     ensures { MatchResult result (λ text. IsWhole schedule.plan schedule.lines text.items) (StopCause schedule.plan schedule.lines) }
 {

@@ -96,7 +96,8 @@ fn append_ending(ending: &Ending, out: &mut Vec<u8>) -> Result<(), NoMemory>
 
 /// A client, its thread, and the number of the thread's request.
 fn append_request(client: ClientNo, what: &Return, out: &mut Vec<u8>) -> Result<(), NoMemory>
-    ensures ok { OnOk result (out.new.items ≡ out.old.items ++ (decimal client.0 ++ 32 ∷ decimal what.now.thread.0 ++ 32 ∷ decimal what.now.number)) }
+    ensures ok { OnOk result (out.new.items ≡ out.old.items
+        ++ (decimal client.0 ++ 32 ∷ decimal what.now.thread.0 ++ 32 ∷ decimal what.now.number)) }
     ensures grew { Grew out.old.items out.new.items }
 {
     write_decimal(u64::from(client.0), out)?;
@@ -141,7 +142,14 @@ fn append_effects(
     scratch: &mut Vec<u8>,
     out: &mut Vec<u8>,
 ) -> Result<(), NoMemory>
-    ensures ok { OnOk result (out.new.items ≡ out.old.items ++ effects_lines (record { number = number; event = event.now; ignored = ignored.now; opened = opened.now; returns = returns.now })) }
+    ensures ok { OnOk result (out.new.items ≡ out.old.items
+        ++ effects_lines (record {
+          number = number;
+          event = event.now;
+          ignored = ignored.now;
+          opened = opened.now;
+          returns = returns.now;
+        })) }
     ensures grew { Grew out.old.items out.new.items }
 {
     append_event(number, event, scratch, out)?;
@@ -162,7 +170,14 @@ pub fn write_effects(
     scratch: &mut Vec<u8>,
     out: &mut Vec<u8>,
 ) -> Result<(), NoMemory>
-    ensures ok { OnOk result (out.new.items ≡ out.old.items ++ effects_lines (record { number = number; event = event.now; ignored = ignored.now; opened = opened.now; returns = returns.now })) }
+    ensures ok { OnOk result (out.new.items ≡ out.old.items
+        ++ effects_lines (record {
+          number = number;
+          event = event.now;
+          ignored = ignored.now;
+          opened = opened.now;
+          returns = returns.now;
+        })) }
     ensures err { OnErr result (out.new.items ≡ out.old.items) }
 {
     let mark = out.len();

@@ -1,4 +1,5 @@
 //! A transcript that grows event by event.
+ghost use Rattle.cp_base.specs.declared.limits.TheConstants.{LAST_NUMBER};
 ghost use Rattle.std.specs.Prelude.{◌≡◌, ◌+◌, ◌<◌, ◌^◌, ◌++◌, ◌∷◌, List, [], length, IfOk, OnOk};
 ghost use Rattle.cp_events.specs.declared.effects.Effects.{Effects};
 ghost use Rattle.cp_world_rules.specs.Rows.{Committed};
@@ -68,9 +69,10 @@ impl TranscriptWriter {
 
     /// Appends an entry that an event committed. Where memory runs out, the lines are left.
     pub fn add_committed(&mut self, event: u64, entry: &Entry) -> Result<(), NoMemory>
-        requires { self.old.rows < 2 ^ 62 }
+        requires { self.old.rows < LAST_NUMBER }
         ensures rows { OnOk result (self.new.rows ≡ self.old.rows + 1) }
-        ensures tells { OnOk result ((shown : List Effects) (history : List Committed) → Tells shown history self.old → Tells shown (history ++ record { event = event; entry = entry.now } ∷ []) self.new) }
+        ensures tells { OnOk result ((shown : List Effects) (history : List Committed) → Tells shown history self.old
+            → Tells shown (history ++ record { event = event; entry = entry.now } ∷ []) self.new) }
     {
         write_committed(self.rows + 1, event, entry, &mut self.history)?;
         self.rows += 1;
@@ -79,8 +81,9 @@ impl TranscriptWriter {
 
     /// Appends the entries that an event committed.
     pub fn add_all_committed(&mut self, event: u64, entries: &[Entry]) -> Result<(), NoMemory>
-        requires { self.old.rows + length entries.now < 2 ^ 62 }
-        ensures { OnOk result ((shown : List Effects) (history : List Committed) → Tells shown history self.old → Tells shown (history ++ committed_at event entries.now) self.new) }
+        requires { self.old.rows + length entries.now < LAST_NUMBER }
+        ensures { OnOk result ((shown : List Effects) (history : List Committed) → Tells shown history self.old
+            → Tells shown (history ++ committed_at event entries.now) self.new) }
     {
         for entry in entries {
             self.add_committed(event, entry)?;
@@ -90,7 +93,8 @@ impl TranscriptWriter {
 
     /// How many bytes the whole text has if it ends here. The sum of two lengths may have more than 64 bits.
     pub fn len(&self) -> u128
-        ensures { (shown : List Effects) (history : List Committed) → Tells shown history self.now → result ≡ length (lines_of shown history) }
+        ensures { (shown : List Effects) (history : List Committed) → Tells shown history self.now → result
+            ≡ length (lines_of shown history) }
     {
         let history = history_len(self.rows, &self.history);
         whole_len(&self.text, history)
@@ -98,7 +102,8 @@ impl TranscriptWriter {
 
     /// The whole text: the lines of the events, those of the history, and the last line.
     pub fn into_text(self) -> Result<Vec<u8>, NoMemory>
-        ensures { IfOk result (λ text. (shown : List Effects) (history : List Committed) → Tells shown history self → text.items ≡ lines_of shown history) }
+        ensures { IfOk result (λ text. (shown : List Effects) (history : List Committed) → Tells shown history self
+            → text.items ≡ lines_of shown history) }
     {
         let TranscriptWriter {
             mut text,

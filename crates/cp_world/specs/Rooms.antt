@@ -1,4 +1,5 @@
 -- Worlds whose numbers may grow.
+use Rattle.cp_base.specs.declared.limits.TheConstants.{LAST_NUMBER}
 use Rattle.std.specs.Prelude.{◌<◌, ◌+◌, ◌^◌, ℕ, List, length}
 use Rattle.cp_base.specs.declared.identifier.ClientNo.{ClientNo}
 use Rattle.cp_events.specs.declared.event.Event.{Event}
@@ -18,7 +19,7 @@ pub record CanCount (f : rules.World → rules.World) (world : World) (turn : Tu
   pub event : Event
   pub w : rules.World
   pub goes : Goes before event w world turn
-  pub few : length (f w).history < 2 ^ 62
+  pub few : length (f w).history < LAST_NUMBER
 
 -- a client's step gave this, and the history that it leads to can be counted
 pub record CanCountDone (me : ClientNo) (given : ClientOut) (world : World) (turn : Turn) : Type 0 where
@@ -28,7 +29,7 @@ pub record CanCountDone (me : ClientNo) (given : ClientOut) (world : World) (tur
   pub did : Did
   pub gives : IsGiven did given
   pub goes : GoesFrom me did before event w world turn
-  pub few : length (rules.does me did w).history < 2 ^ 62
+  pub few : length (rules.does me did w).history < LAST_NUMBER
 
 -- so can the numbers of the clients
 pub record HasRoomFor (f : rules.World → rules.World) (world : World) (turn : Turn) : Type 0 where
@@ -38,7 +39,7 @@ pub record HasRoomFor (f : rules.World → rules.World) (world : World) (turn : 
   pub goes : Goes before event w world turn
   pub n : ℕ
   pub within : AllWithin n w
-  pub few : length (f w).history + n < 2 ^ 62
+  pub few : length (f w).history + n < LAST_NUMBER
 
 -- The world is that after some events, of which there may be more.
 pub record IsReached (plan : Plan) (world : World) : Type 0 where

@@ -1,5 +1,6 @@
 //! The clients of a world, by number.
-ghost use Rattle.std.specs.Prelude.{◌≡◌, ◌≤◌, ◌+◌, ◌^◌, OnOk};
+ghost use Rattle.cp_base.specs.declared.limits.TheConstants.{LAST_NUMBER};
+ghost use Rattle.std.specs.Prelude.{◌≡◌, ◌≤◌, ◌+◌, OnOk};
 ghost use Rattle.std.specs.Ordering.{nat_cmp};
 ghost use Rattle.cp_group_state.specs.Rows.{find};
 ghost use Rattle.cp_client.specs.Threads.{open_number};
@@ -24,7 +25,8 @@ use std::collections::BTreeMap;
 
 /// The number of a thread's open request, if it has one.
 pub fn is_busy(clients: &BTreeMap<u8, Client>, me: ClientNo, thread: ThreadNo) -> Option<u64>
-    ensures { result ≡ open_number (thread_at (or_new (find nat_cmp clients.now.entries me.0)) thread).number (thread_at (or_new (find nat_cmp clients.now.entries me.0)) thread).pending }
+    ensures { result ≡ open_number (thread_at (or_new (find nat_cmp clients.now.entries me.0)) thread).number (thread_at
+        (or_new (find nat_cmp clients.now.entries me.0)) thread).pending }
 {
     match clients.get(&me.0) {
         Some(client) => client.is_busy(thread),
@@ -76,7 +78,8 @@ pub fn call_at(
     out: &mut ClientOut,
 ) -> Result<(), NoMemory>
     requires { HasRoom thread (or_new (find nat_cmp clients.old.entries me.0)) }
-    ensures { OnOk result (GivesAt me (call_client plan.now (replay_id me) thread op.now (or_new (find nat_cmp clients.old.entries me.0))) clients.old.entries clients.new.entries out.old out.new) }
+    ensures { OnOk result (GivesAt me (call_client plan.now (replay_id me) thread op.now (or_new (find nat_cmp
+        clients.old.entries me.0))) clients.old.entries clients.new.entries out.old out.new) }
 {
     match clients.get_mut(&me.0) {
         Some(client) => step_call(client, plan, me, thread, op, out),
@@ -114,7 +117,8 @@ pub fn answer_at(
     out: &mut ClientOut,
 ) -> Result<(), NoMemory>
     requires { HasRoom request.now.thread (or_new (find nat_cmp clients.old.entries me.0)) }
-    ensures { OnOk result (GivesAt me (answer_client plan.now (replay_id me) request.now answer (or_new (find nat_cmp clients.old.entries me.0))) clients.old.entries clients.new.entries out.old out.new) }
+    ensures { OnOk result (GivesAt me (answer_client plan.now (replay_id me) request.now answer (or_new (find nat_cmp
+        clients.old.entries me.0))) clients.old.entries clients.new.entries out.old out.new) }
 {
     match clients.get_mut(&me.0) {
         Some(client) => step_answer(client, plan, me, request, answer, out),
@@ -133,7 +137,7 @@ fn step_tick(
     ms: u32,
     out: &mut ClientOut,
 ) -> Result<(), NoMemory>
-    requires { client.old.clock + ms ≤ 2 ^ 62 }
+    requires { client.old.clock + ms ≤ LAST_NUMBER }
     ensures { OnOk result (Gives (tick_client (replay_id me) ms client.old) client.new out.old out.new) }
 {
     client.tick(ClientId::in_replay(me), ms, out)
@@ -147,8 +151,9 @@ pub fn tick_at(
     ms: u32,
     out: &mut ClientOut,
 ) -> Result<(), NoMemory>
-    requires { (or_new (find nat_cmp clients.old.entries me.0)).clock + ms ≤ 2 ^ 62 }
-    ensures { OnOk result (GivesAt me (tick_client (replay_id me) ms (or_new (find nat_cmp clients.old.entries me.0))) clients.old.entries clients.new.entries out.old out.new) }
+    requires { (or_new (find nat_cmp clients.old.entries me.0)).clock + ms ≤ LAST_NUMBER }
+    ensures { OnOk result (GivesAt me (tick_client (replay_id me) ms (or_new (find nat_cmp clients.old.entries me.0)))
+        clients.old.entries clients.new.entries out.old out.new) }
 {
     match clients.get_mut(&me.0) {
         Some(client) => step_tick(client, me, ms, out),

@@ -1,5 +1,6 @@
 //! What a client asks enters the history at once.
-ghost use Rattle.std.specs.Prelude.{◌≡◌, ◌<◌, ◌+◌, ◌^◌, ◌++◌, ℕ, List, map, OnOk};
+ghost use Rattle.cp_base.specs.declared.limits.TheConstants.{LAST_NUMBER};
+ghost use Rattle.std.specs.Prelude.{◌≡◌, ◌<◌, ◌+◌, ◌++◌, ℕ, List, map, OnOk};
 ghost use Rattle.cp_client_rules.specs.Clients.{Did};
 ghost use Rattle.cp_world_rules.specs.World.{commit, commit_all, does};
 ghost use Rattle.cp_world.specs.Following.{Leads, LeadsFrom};
@@ -16,7 +17,7 @@ use std::alloc::Global;
 
 /// A request is the next entry of the history, and what that answers waits to be handed on.
 fn commit(world: &mut World, asked: Asked, turn: &mut Turn) -> Result<(), NoMemory>
-    requires { world.old.entries < 2 ^ 62 }
+    requires { world.old.entries < LAST_NUMBER }
     ensures { OnOk result (Leads (commit asked) world.old turn.old world.new turn.new) }
 {
     let entry = asked.into_entry();

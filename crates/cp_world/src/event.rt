@@ -1,5 +1,5 @@
 //! An event, and all that follows from it.
-ghost use Rattle.std.specs.Prelude.{◌≡◌, ◌≤◌, ◌+◌, ◌^◌, OnOk};
+ghost use Rattle.std.specs.Prelude.{◌≡◌, ◌≤◌, ◌+◌, OnOk};
 ghost use Rattle.std.specs.Ordering.{nat_cmp};
 ghost use Rattle.cp_events.specs.declared.event.Event.TheVariants as event;
 ghost use Rattle.cp_group_state.specs.Rows.{find};
@@ -13,12 +13,10 @@ use crate::committing::does;
 use crate::handing::handed;
 use crate::turn::Turn;
 use crate::world::World;
+use cp_base::limits::LAST_NUMBER;
 use cp_base::{ClientNo, NoMemory, ThreadNo};
 use cp_client::ClientOut;
 use cp_events::{Event, Ignored, Plan, UserOp};
-
-/// The clocks of clients end here.
-const CLOCK_END: u64 = 1 << 62;
 
 fn is_client(plan: &Plan, me: ClientNo) -> bool
     ensures { result ≡ is_client plan.now me }
@@ -75,7 +73,7 @@ fn moves_now(
     turn: &mut Turn,
 ) -> Result<(), NoMemory>
     requires room { HasRoomFor (moves_if_room me ms) world.old turn.old }
-    requires clock { (or_new (find nat_cmp world.old.clients.entries me.0)).clock + ms ≤ 2 ^ 62 }
+    requires clock { (or_new (find nat_cmp world.old.clients.entries me.0)).clock + ms ≤ LAST_NUMBER }
     ensures { OnOk result (Leads (moves_if_room me ms) world.old turn.old world.new turn.new) }
 {
     given.clear();
@@ -95,7 +93,7 @@ fn moves(
     ensures { OnOk result (Leads (moves_if_room me ms) world.old turn.old world.new turn.new) }
 {
     let clock = clock_of(&world.clients, me);
-    if clock > CLOCK_END - u64::from(ms) {
+    if clock > LAST_NUMBER - u64::from(ms) {
         turn.ignored = Some(Ignored::ClockEnd(clock));
         return Ok(());
     }

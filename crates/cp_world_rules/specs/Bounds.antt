@@ -1,5 +1,6 @@
 -- How far the numbers of clients go.
-use Rattle.std.specs.Prelude.{◌≡◌, ◌≤◌, ◌+◌, ◌^◌, ℕ, true, Some, None, Option, length, All}
+use Rattle.cp_base.specs.declared.limits.TheConstants.{LAST_NUMBER}
+use Rattle.std.specs.Prelude.{◌≡◌, ◌≤◌, ◌+◌, ℕ, true, Some, None, Option, length, All}
 use Rattle.cp_base.specs.declared.identifier.ClientNo.{ClientNo}
 use Rattle.cp_base.specs.declared.identifier.ThreadNo.{ThreadNo}
 use Rattle.cp_client_rules.specs.declared.rows.HoldRecord.{HoldRecord}
@@ -32,7 +33,7 @@ OpensForNeed (task.Calls o) purpose.ForSession = needs_session (need_of o) ≡ t
 OpensForNeed x p = Unit {0}
 
 pub record IsWithin (most : ℕ) (c : Client) : Type 0 where
-  pub clock : c.clock ≤ 2 ^ 62
+  pub clock : c.clock ≤ LAST_NUMBER
   -- the numbers of requests
   pub numbers : (t : ThreadNo) → (thread_at c t).number ≤ most
   pub begun : (t : ThreadNo) → HasMade c t 0

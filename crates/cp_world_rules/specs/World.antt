@@ -1,5 +1,6 @@
 -- The world without members: clients, and the one group, whose history each request enters at once.
-use Rattle.std.specs.Prelude.{ℕ, ◌+◌, ◌^◌, Bool, not, ◌&&◌, List, [], ◌∷◌, ◌++◌, length, map, Option, Some, None, if◌then◌else◌, nat_lt, slice_index}
+use Rattle.cp_base.specs.declared.limits.TheConstants.{LAST_NUMBER}
+use Rattle.std.specs.Prelude.{ℕ, ◌+◌, Bool, not, ◌&&◌, List, [], ◌∷◌, ◌++◌, length, map, Option, Some, None, if◌then◌else◌, nat_lt, slice_index}
 use Rattle.std.specs.Ordering.{nat_cmp}
 use Rattle.cp_base.specs.Identifiers.{replay_id}
 use Rattle.cp_base.specs.declared.identifier.ClientNo.{ClientNo}
@@ -96,7 +97,7 @@ moves_now me ms w = does me (tick_client (replay_id me) ms (client_at w me))
     (record w { moves = w.moves ++ record { event = w.shown.number; client = me; ms = ms; clock = (client_at w me).clock + ms } ∷ [] })
 
 abbrev pub moves_if_room : ClientNo → ℕ → World → World
-moves_if_room me ms w = if nat_lt (2 ^ 62) ((client_at w me).clock + ms)
+moves_if_room me ms w = if nat_lt LAST_NUMBER ((client_at w me).clock + ms)
     then ignore (ignored.ClockEnd (client_at w me).clock) w
     else moves_now me ms w
 

@@ -10,7 +10,7 @@ pub returns-in_ok-answer-in-Map-clause-state : goal.returns-in_ok-answer-in-Map-
 returns-in_ok-answer-in-Map-clause-state c = c.in_ok-answer-in-Map.ensures.state ∙ sym (ap (λ (p : Op). (rule c.args.index c.args.call.now p c.args.self.now).change.state) c.in-Map.is)
 
 pub returns-in_ok-answer-in-Map-clause-reply : goal.returns-in_ok-answer-in-Map-clause-reply
-returns-in_ok-answer-in-Map-clause-reply c = ap (λ (p : Op). (rule c.args.index c.args.call.now p c.args.self.now).reply) c.in-Map.is ∙ sym (ap (λ (a : Answer). Answered a) c.in_ok-answer-in-Map.ensures.answer)
+returns-in_ok-answer-in-Map-clause-reply c = ap (λ (a : Answer). Answered a) c.in_ok-answer-in-Map.ensures.answer ∙ sym (ap (λ (p : Op). (rule c.args.index c.args.call.now p c.args.self.now).reply) c.in-Map.is)
 
 pub returns-in_ok-answer-in-Destroy-clause-state : goal.returns-in_ok-answer-in-Destroy-clause-state
 returns-in_ok-answer-in-Destroy-clause-state c = c.in_ok-answer-in-Destroy.ensures.state ∙ sym (ap (λ (p : Op). (rule c.args.index c.args.call.now p c.args.self.now).change.state) c.in-Destroy.is)
