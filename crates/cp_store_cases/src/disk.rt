@@ -21,7 +21,7 @@ pub struct CaseDisk {
 }
 
 /// What a step with a disk found.
-#[derive(Debug, Drop)]
+#[derive(Drop)]
 enum Found {
     Done,
     Number(u64),

@@ -4,7 +4,7 @@ use crate::words::{bytes_of, joined_bytes, number_of, numbers_of};
 use std::alloc::Global;
 
 /// A step with sources and sinks.
-#[derive(Debug, Drop)]
+#[derive(Drop)]
 pub enum StreamStep {
     /// `source new BYTES FAILS..`: a source over these bytes, whose calls with these numbers fail.
     Source(Vec<u8>, Vec<u64>),
@@ -29,7 +29,7 @@ pub enum StreamStep {
 }
 
 /// A step with a disk.
-#[derive(Debug, Drop)]
+#[derive(Drop)]
 pub enum DiskStep {
     /// `disk new BYTES FAILS..`: a disk with these bytes, whose calls with these numbers fail.
     New(Vec<u8>, Vec<u64>),
@@ -52,7 +52,7 @@ pub enum DiskStep {
 }
 
 /// A step with a journal over the disk.
-#[derive(Debug, Drop)]
+#[derive(Drop)]
 pub enum JournalStep {
     /// `journal open`: tells the bodies of the records.
     Open,
@@ -67,7 +67,7 @@ pub enum JournalStep {
 }
 
 /// A step with a store over the disk.
-#[derive(Debug, Drop)]
+#[derive(Drop)]
 pub enum StoreStep {
     /// `store open SIZE` and `store open managed SIZE`
     Open(bool, u64),
@@ -99,7 +99,7 @@ pub enum StoreStep {
 }
 
 /// A step of a case.
-#[derive(Debug, Drop)]
+#[derive(Drop)]
 pub enum Step {
     Stream(StreamStep),
     Disk(DiskStep),
