@@ -1,7 +1,7 @@
 //! Does cases with sources and sinks, disks, journals and stores, all in memory, and tells what comes out.
 //!
 //! Each line of the standard input is a case: steps with `;` between them, as `disk new 616263; disk write 2 58595a; disk bytes`. It
-//! gives one line, with what each step told. `step.rt` lists the steps. A line that is empty or begins with `#` is told as it stands. A
+//! gives one line, with what each step told. `verb.rt` lists them. A line that is empty or begins with `#` is told as it stands. A
 //! line that is no case gives status 1, and then nothing is told.
 //!
 //! With `bench-appends`, `bench-parts` or `bench-opens` and a number: so many appends to a journal, or to a store, which is opened again
@@ -15,9 +15,9 @@ mod end;
 mod journal;
 mod many_appends;
 mod many_parts;
-mod step;
 mod store;
 mod streams;
+mod verb;
 mod words;
 
 use case::tell_cases;
