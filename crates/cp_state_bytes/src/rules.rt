@@ -164,7 +164,7 @@ fn is_semaphore(kind: Kind) -> bool
 fn waiter_stands(semaphores: &Semaphores, waiter: &Waiter) -> Result<bool, NoMemory>
     ensures { IfOk result
         (λ there. there
-            ≡ (not (is_semaphore waiter.now.kind) || is_some (find object_cmp semaphores.now.entries (waiter.now.name, waiter.now.kind)))) }
+        ≡ (not (is_semaphore waiter.now.kind) || is_some (find object_cmp semaphores.now.entries (waiter.now.name, waiter.now.kind)))) }
 {
     if !is_semaphore(waiter.kind) {
         return Ok(true);
@@ -219,7 +219,7 @@ fn add(sums: &mut BTreeMap<Name, u64>, name: &Name, permits: u64) -> Result<(), 
 fn add_row(sums: &mut BTreeMap<Name, u64>, row: &((u64, Name), u64)) -> Result<(), NoMemory>
     ensures { OnOk result
         (sums.new.entries
-            ≡ put name_cmp sums.old.entries row.now.0.1 (min (sum_under sums.old.entries row.now.0.1 + row.now.1) (2 ^ 64 - 1))) }
+        ≡ put name_cmp sums.old.entries row.now.0.1 (min (sum_under sums.old.entries row.now.0.1 + row.now.1) (2 ^ 64 - 1))) }
 {
     let ((_session, name), permits) = row;
     add(sums, name, *permits)
