@@ -1,5 +1,6 @@
 //! What a follower joins of the chunks of a snapshot.
 ghost use Rattle.std.specs.Prelude.{◌≡◌, ◌+◌, ◌≤◌, ◌++◌, [], length, drop, vec_len, Some, None, Ok, option_map, IfOk, OnOk, OnErr};
+ghost use Rattle.cp_base.specs.declared.limits.TheConstants.{MOST_SNAPSHOT};
 ghost use Rattle.cp_rules.specs.Snapshots.{received_of};
 ghost use Rattle.cp_snapshot.specs.declared.assembler.Progress.TheVariants as progress;
 ghost use Rattle.cp_snapshot.specs.Decisions.{joined_to, progress_at, told, received_with, received_after, whole_in};
