@@ -1,4 +1,5 @@
 pub mod StateLaws
+pub mod Whole
 pub mod Consistent
 pub mod Sound
 pub mod Checks
