@@ -320,7 +320,7 @@ module _ (history : History) where
     memory-cause x (Some row) names there opened c a = cases (λ (r : Applied). Contains r.answers (c, a) → HasCause history i c a) (row.number == call.number) _ _
         (λ same h. again-cause x row there opened (same_number row.number call.number same) c a h)
         (λ apart. cases (λ (r : Applied). Contains r.answers (c, a) → HasCause history i c a) (nat_lt call.number row.number) _ _
-        (λ less h. subst (λ (y : Invocation × Answer). HasCause history i y.0 y.1) (sym (one-is (call, answer.Stale row.number) (c, a) h)) (stale-cause x row names there opened (less call.number row.number less)))
+        (λ lower h. subst (λ (y : Invocation × Answer). HasCause history i y.0 y.1) (sym (one-is (call, answer.Stale row.number) (c, a) h)) (stale-cause x row names there opened (less call.number row.number lower)))
         (λ less h. perform-cause c a h))
 
     expired-cause : (x : ℕ) → session_in o ≡ Some x → is_open_for t.sessions x call.client ≡ false → HasCause history i call (answer.SessionExpired x)
