@@ -29,7 +29,7 @@ on_change-requires-clause-member g c = c.requires.names _ (ap event_of c.in-Chan
 
 pub on_read-requires : goal.on_read-requires
 on_read-requires g c = record {
-  may = subst (λ (op : List ℕ). MayStep c.args.seat.me (g.G.Log.stored c.args.stored.now) c.args.state.now (Read c.in-Read.call c.in-Read.attempt op)) (sym c.as_slice-in-Read.ensures) (c.requires.may _ (ap event_of c.in-Read.is));
+  may = subst (λ (op : List ℕ). MayStep c.args.seat.me (g.G.Log.stored c.args.stored.now) c.args.state.now (Read c.in-Look.call c.in-Look.attempt op)) (sym c.as_slice-in-Look.ensures) (c.requires.may _ (ap event_of c.in-Look.is));
 }
 
 pub returns-in-Got-clause-frugal : goal.returns-in-Got-clause-frugal
@@ -49,5 +49,5 @@ returns-in-Propose-clause-frugal g c = λ e is voting none room. absurd (not_vot
 pub returns-in-Change-clause-frugal : goal.returns-in-Change-clause-frugal
 returns-in-Change-clause-frugal g c = λ e is voting none room. absurd (not_voting (event_of c.args.event.now) _ e (ap event_of c.in-Change.is) refl is voting)
 
-pub returns-in-Read-clause-frugal : goal.returns-in-Read-clause-frugal
-returns-in-Read-clause-frugal g c = λ e is voting none room. absurd (not_voting (event_of c.args.event.now) _ e (ap event_of c.in-Read.is) refl is voting)
+pub returns-in-Look-clause-frugal : goal.returns-in-Look-clause-frugal
+returns-in-Look-clause-frugal g c = λ e is voting none room. absurd (not_voting (event_of c.args.event.now) _ e (ap event_of c.in-Look.is) refl is voting)
