@@ -30,15 +30,15 @@ abbrev pub are_unknown : List ClientId → List (ℕ × SessionRow) → Bool
 are_unknown clients rows = list_all (λ e. not (knows clients e.1.client)) rows
 
 -- no two sessions have one client exactly where no session that is left is of a client that was met, and no two that are left have one
-abbrev pub IsMet : List ClientId → List (ℕ × SessionRow) → List (ℕ × SessionRow) → Type 0
-IsMet clients left rows = clients_differ rows ≡ (are_unknown clients left && clients_differ left)
+pub record IsMet (clients : List ClientId) (left rows : List (ℕ × SessionRow)) : Type 0 where
+  pub same : clients_differ rows ≡ (are_unknown clients left && clients_differ left)
 
-nobody : (clients : List ClientId) (rows : List (ℕ × SessionRow)) → clients ≡ [] → are_unknown clients rows ≡ true
-nobody clients [] none = refl
-nobody clients (e ∷ es) none = rw none (nobody [] es refl)
+nobody : (rows : List (ℕ × SessionRow)) → are_unknown [] rows ≡ true
+nobody [] = refl
+nobody (e ∷ es) = nobody es
 
 pub none_met : (clients : List ClientId) (rows : List (ℕ × SessionRow)) → clients ≡ [] → IsMet clients rows rows
-none_met clients rows none = ap (λ (b : Bool). b && clients_differ rows) (sym (nobody clients rows none))
+none_met clients rows none = record { same = ap (λ (b : Bool). b && clients_differ rows) (sym (ap (λ (known : List ClientId). are_unknown known rows) none ∙ nobody rows)) }
 
 turned : (a b : ClientId) → same_client a b ≡ same_client b a
 turned a b = nat_list_eq_equiv.symm a.0 b.0
@@ -72,18 +72,22 @@ grouped : (a b c : Bool) → ((a && b) && c) ≡ (a && (b && c))
 grouped true b c = refl
 grouped false b c = refl
 
-pub one_met : (clients next : List ClientId) (e : ℕ × SessionRow) (es rows : List (ℕ × SessionRow)) → IsMet clients (e ∷ es) rows → knows clients e.1.client ≡ false
+pub one_met : (clients next : List ClientId) (e : ℕ × SessionRow) (es rest rows : List (ℕ × SessionRow)) → rest ≡ e ∷ es → IsMet clients rest rows → knows clients e.1.client ≡ false
     → ((other : ClientId) → knows next other ≡ (knows clients other || same_client other e.1.client)) → IsMet next es rows
-one_met clients next e es rows met unknown told =
-    met ∙ ap (λ (b : Bool). (not b && are_unknown clients es) && clients_differ (e ∷ es)) unknown
-    ∙ sym (grouped (are_unknown clients es) (not (list_any (λ f. same_client e.1.client f.1.client) es)) (clients_differ es))
-    ∙ ap (λ (b : Bool). b && clients_differ es) (sym (one_more clients next e.1.client es told))
+one_met clients next e es rest rows first met unknown told = record {
+  same =
+      met.same ∙ ap (λ (left : List (ℕ × SessionRow)). are_unknown clients left && clients_differ left) first
+      ∙ ap (λ (b : Bool). (not b && are_unknown clients es) && clients_differ (e ∷ es)) unknown
+      ∙ sym (grouped (are_unknown clients es) (not (list_any (λ f. same_client e.1.client f.1.client) es)) (clients_differ es))
+      ∙ ap (λ (b : Bool). b && clients_differ es) (sym (one_more clients next e.1.client es told));
+}
 
-pub met_again : (clients : List ClientId) (e : ℕ × SessionRow) (es rows : List (ℕ × SessionRow)) → IsMet clients (e ∷ es) rows → knows clients e.1.client ≡ true → false ≡ clients_differ rows
-met_again clients e es rows met known = sym (met ∙ ap (λ (b : Bool). (not b && are_unknown clients es) && clients_differ (e ∷ es)) known)
+pub met_again : (clients : List ClientId) (e : ℕ × SessionRow) (es rest rows : List (ℕ × SessionRow)) → rest ≡ e ∷ es → IsMet clients rest rows → knows clients e.1.client ≡ true → false ≡ clients_differ rows
+met_again clients e es rest rows first met known = sym (met.same ∙ ap (λ (left : List (ℕ × SessionRow)). are_unknown clients left && clients_differ left) first
+    ∙ ap (λ (b : Bool). (not b && are_unknown clients es) && clients_differ (e ∷ es)) known)
 
-pub all_met : (clients : List ClientId) (rows : List (ℕ × SessionRow)) → IsMet clients [] rows → true ≡ clients_differ rows
-all_met clients rows met = sym met
+pub all_met : (clients : List ClientId) (rest rows : List (ℕ × SessionRow)) → length rest ≡ 0 → IsMet clients rest rows → true ≡ clients_differ rows
+all_met clients rest rows none met = sym (met.same ∙ ap (λ (left : List (ℕ × SessionRow)). are_unknown clients left && clients_differ left) (nil_from_length rest none))
 
 pub calls_apart : (rows copy : List Waiter) → copy ≡ rows → CallsDiffer copy → true ≡ calls_differ rows
 calls_apart rows copy same differ = sym (calls_pass rows (subst CallsDiffer same differ))

@@ -100,7 +100,7 @@ fn clients_differ(alloc: Global, rows: &[(u64, SessionRow)]) -> Result<bool, NoM
 {
     let mut clients = HashSet::new(alloc);
     let mut rest = rows;
-    while let [row, after @ ..] = rest {
+    while let Some((row, after)) = rest.split_first() {
         if knows(&clients, &row.1.client) {
             return Ok(false);
         }

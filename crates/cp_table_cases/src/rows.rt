@@ -4,7 +4,7 @@ ghost use Rattle.std.specs.Ordering.{nat_cmp};
 ghost use Rattle.cp_group_state.specs.Rows.{find};
 
 use crate::end::End;
-use crate::shown::{show, show_found, show_number};
+use crate::shown::{show, show_number};
 use crate::words::Words;
 use cp_rows::{put_row, write_row};
 use std::collections::BTreeMap;
@@ -34,8 +34,10 @@ fn write(rows: &mut Rows, words: &mut Words, out: &mut Vec<u8>) -> Result<(), En
 }
 
 fn get(rows: &Rows, words: &mut Words, out: &mut Vec<u8>) -> Result<(), End> {
-    let row = rows.get(&words.number()?).copied();
-    show_found(row.map(u64::from), out)
+    match rows.get(&words.number()?) {
+        Some(row) => show_number(u64::from(*row), out),
+        None => show(b"none", out),
+    }
 }
 
 /// Makes the call that words spell, and shows its answer.
