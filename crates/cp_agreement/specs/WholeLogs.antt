@@ -1,5 +1,5 @@
 -- The facts of a step again, for members that keep their whole log and take no snapshot. Agreement is proved here; cp_safety carries
--- it to members with snapshots, each of which stands for such a one.
+-- it to members with snapshots, each of which stands for such a one. The head of Facts in cp_agreement_facts says why they stand twice.
 use Rattle.std.specs.Prelude.{◌≡◌, ◌≢◌, ℕ, ◌+◌, ◌<◌, ◌≤◌, ◌⊎◌, Bool, true, false, List, [], ◌∷◌, ◌++◌, length, take, Option, Some, None, slice_get, Contains}
 use Rattle.cp_parts.specs.declared.log_entry.LogEntry.{LogEntry}
 use Rattle.cp_agreement_facts.specs.Entries.{members_in}

@@ -1,4 +1,9 @@
 -- What agreement asks of each step. Each fact relates the state before a step with the step: what came, what was left, what was sent.
+--
+-- The facts stand here for members with snapshots, as the step of cp_rules meets them, and once more in cp_agreement's
+-- WholeLogs for members that keep their whole log. Agreement is proved over those, where an index is a place of a list; cp_safety
+-- proves that each execution of these stands for one of those. A step does more to a log that has a base, so most facts differ, and
+-- the two share the words of Logs, Configurations and Clusters alone.
 use Rattle.std.specs.Prelude.{◌≡◌, ◌≢◌, ℕ, suc, ◌+◌, ◌-◌, ◌<◌, ◌≤◌, ◌⊎◌, true, List, [], ◌∷◌, ◌++◌, length, take, drop, Some, None, slice_get, Contains}
 use Rattle.cp_parts.specs.declared.log_entry.LogEntry.{LogEntry}
 use Rattle.cp_agreement_facts.specs.Entries.{members_in}

@@ -6,3 +6,4 @@ pub mod Room
 pub mod Medium
 pub mod Laws
 pub mod Memory
+pub mod Tallies

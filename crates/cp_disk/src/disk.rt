@@ -1,5 +1,6 @@
 //! The traits of disks.
 ghost use Rattle.std.specs.Prelude.{Bool, false, Option, None, Some, ◌≡◌, ◌≤◌, ◌<◌, ◌+◌, ◌^◌, List, ℕ, length, take, drop, IfOk, OnOk, IsErrOf};
+ghost use Rattle.cp_base.specs.declared.limits.TheConstants.{LAST_NUMBER};
 ghost use Rattle.cp_disk.specs.declared.disk.Fault.TheVariants as fault;
 ghost use Rattle.cp_disk.specs.Causes.{CountsFaults, CountsFailures};
 ghost use Rattle.cp_disk.specs.Images.{written, Elapses, Follows, NoMore, Only, Shortened, Torn};
@@ -121,7 +122,7 @@ pub trait CrashDisk: Disk {
 
     /// Leaves one of the images, by the choice, and ends a stop.
     fn crash(&mut self, choice: u64)
-        requires { Self.orders self.old < 2 ^ 62 }
+        requires { Self.orders self.old < LAST_NUMBER }
         ensures image { Self.Told → Self.may_leave self.old (Self.seen self.new) }
         ensures only { Self.Told → Only (Self.seen self.new) (Self.may_leave self.new) }
         ensures time { Self.Told → Elapses (Self.moment self.old) (Self.moment self.new) (Self.left_since self.old) (Self.left_since self.new) (Self.may_leave self.new) }
@@ -131,7 +132,7 @@ pub trait CrashDisk: Disk {
 
     /// Lets so many calls of `write_at`, `cut` and `sync` pass, and then fails every call until a crash.
     fn stop_after(&mut self, calls: u64)
-        requires { Self.orders self.old < 2 ^ 62 }
+        requires { Self.orders self.old < LAST_NUMBER }
         ensures seen { Self.Told → Self.seen self.new ≡ Self.seen self.old }
         ensures crash { Self.Told → NoMore (Self.may_leave self.old) (Self.may_leave self.new) × NoMore (Self.may_leave self.new) (Self.may_leave self.old) }
         ensures time { Self.Told → Elapses (Self.moment self.old) (Self.moment self.new) (Self.left_since self.old) (Self.left_since self.new) (Self.may_leave self.new) }

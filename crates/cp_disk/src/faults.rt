@@ -1,5 +1,6 @@
 //! Which calls of a disk in memory fail, and what it counts.
 ghost use Rattle.std.specs.Prelude.{◌≡◌, ◌≤◌, ◌+◌, ◌<◌, ◌^◌, false, None, Some, OnErr, OnOk, is_err};
+ghost use Rattle.cp_base.specs.declared.limits.TheConstants.{LAST_NUMBER};
 ghost use Rattle.cp_base.specs.Faults.{Rose};
 ghost use Rattle.cp_disk.specs.Causes.{CountsFailures};
 
@@ -126,7 +127,7 @@ impl Faults {
 
     /// Arms a stop.
     pub fn arm(&mut self, calls: u64)
-        requires { self.old.orders < 2 ^ 62 }
+        requires { self.old.orders < LAST_NUMBER }
         ensures { self.new ≡ record self.old { stop = Some calls; is_struck = false; orders = self.old.orders + 1 } }
     {
         self.stop = Some(calls);
@@ -136,7 +137,7 @@ impl Faults {
 
     /// Ends a stop, at a crash.
     pub fn disarm(&mut self)
-        requires { self.old.orders < 2 ^ 62 }
+        requires { self.old.orders < LAST_NUMBER }
         ensures { self.new ≡ record self.old { stop = None; orders = self.old.orders + 1 } }
     {
         self.stop = None;

@@ -6,10 +6,8 @@ ghost use Rattle.cp_election.specs.Decisions.{pre_vote, vote};
 
 use crate::ballot::adopted;
 use crate::role::is_leader;
+use crate::waiting::LEAST_TIMEOUT;
 use cp_rules::{Ballot, LogEnd, Role};
-
-/// How long a member that knows a leader refuses pre-votes after it heard of it, in milliseconds.
-const LEAST_TIMEOUT: u64 = 2_000;
 
 /// The answer to a pre-vote.
 #[derive(Clone, Copy, Debug, PartialEq, Eq)]

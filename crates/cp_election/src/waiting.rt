@@ -4,15 +4,14 @@ ghost use Rattle.cp_rules.specs.PreVotes.{timeout, may_stand};
 ghost use Rattle.cp_election.specs.Decisions.{standing};
 
 use crate::members::is_member;
+use cp_base::limits::LAST_NUMBER;
 
-/// How long the first member waits for a leader, in milliseconds.
-const LEAST_TIMEOUT: u64 = 2_000;
+/// How long the first member waits for a leader, and a member that knows one refuses pre-votes after it heard of it, in
+/// milliseconds.
+pub(crate) const LEAST_TIMEOUT: u64 = 2_000;
 
 /// How much longer than the one before it each next member waits.
 const TIMEOUT_STEP: u64 = 100;
-
-/// The most that a term or an index may be: 2^62.
-const MOST_INDEX: u64 = 1 << 62;
 
 /// What a tick does with a member that does not lead.
 #[derive(Clone, Copy, Debug, PartialEq, Eq)]
@@ -44,7 +43,7 @@ pub fn timeout(me: u8) -> u64
 pub fn may_stand(me: u8, members: &[u8], term: u64, last: u64, silence: u64) -> bool
     ensures { result ≡ may_stand me members.now term last silence }
 {
-    is_member(me, members) && timeout(me) <= silence && term < MOST_INDEX && last < MOST_INDEX
+    is_member(me, members) && timeout(me) <= silence && term < LAST_NUMBER && last < LAST_NUMBER
 }
 
 /// What a tick does with a member that does not lead. Who is alone waits where it may not write.

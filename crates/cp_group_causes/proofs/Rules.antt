@@ -30,17 +30,25 @@ use Rattle.cp_group_state.specs.declared.rows.Waiter.{Waiter}
 use Rattle.cp_group_state.specs.declared.rows.SessionRow.{SessionRow}
 use Rattle.cp_group_state.specs.Sessions.{session_of}
 use Rattle.cp_group_state.specs.declared.rows.LockRow.{LockRow}
-use Rattle.cp_group_state.specs.Locks.{Taken, Fence, Limit, Busy, Released, Freed, Kept, NotOwner, acquired, released_by, is_free, lock_at}
+use Rattle.cp_group_state.specs.declared.outcome.Taken.{Taken}
+use Rattle.cp_group_state.specs.declared.outcome.Taken.TheVariants.{Fence, Limit, Busy}
+use Rattle.cp_group_state.specs.declared.outcome.Released.{Released}
+use Rattle.cp_group_state.specs.declared.outcome.Released.TheVariants.{Freed, Kept, NotOwner}
+use Rattle.cp_group_state.specs.Locks.{acquired, released_by, is_free, lock_at}
 use Rattle.cp_group_state.specs.declared.rows.SemaphoreRow.{SemaphoreRow}
-use Rattle.cp_group_state.specs.Semaphores.{Semaphores, SemOutcome, SemStep, sem_step, sem_step_on, held, is_held}
-use Rattle.cp_group_state.specs.Semaphores as semaphore
+use Rattle.cp_group_state.specs.declared.outcome.SemOutcome.{SemOutcome}
+use Rattle.cp_group_state.specs.Semaphores.{Semaphores, SemStep, sem_step, sem_step_on, held, is_held}
+use Rattle.cp_group_state.specs.declared.outcome.SemOutcome.TheVariants as semaphore
 use Rattle.cp_group_state.specs.declared.rows.LatchRow.{LatchRow}
-use Rattle.cp_group_state.specs.Latches.{LatchOutcome, LatchStep, latch_step, latch_at, is_over, counted_calls, most_counted}
-use Rattle.cp_group_state.specs.Latches as countdown
+use Rattle.cp_group_state.specs.declared.outcome.LatchOutcome.{LatchOutcome}
+use Rattle.cp_group_state.specs.Latches.{LatchStep, latch_step, latch_at, is_over, counted_calls, most_counted}
+use Rattle.cp_group_state.specs.declared.outcome.LatchOutcome.TheVariants as countdown
 use Rattle.cp_group_state.specs.Atomics.{AtomicStep, long_at, ref_at, long_set, long_answer, ref_set, ref_answer, set_value}
 use Rattle.cp_group_state.specs.Maps.{Effect, Stays, Sets, Goes, MapStep, Pairs, map_answer, map_effect, with_effect, key_of}
 use Rattle.cp_group_state.specs.GroupState.{GroupState}
-use Rattle.cp_group_state.specs.Outcomes.{Outcome, Reply, Answered, Waits, wait}
+use Rattle.cp_group_state.specs.declared.outcome.Reply.{Reply}
+use Rattle.cp_group_state.specs.declared.outcome.Reply.TheVariants.{Answered, Waits}
+use Rattle.cp_group_state.specs.Outcomes.{Outcome, wait}
 use Rattle.cp_group_state.specs.LockRules.{lock_rule, on_taken, on_released, owner_answer}
 use Rattle.cp_group_state.specs.SemaphoreRules.{sem_rule, sem_wait, on_sem, is_behind}
 use Rattle.cp_group_state.specs.SessionRules.{session_rule, opened, beat}

@@ -11,8 +11,11 @@ use Rattle.cp_answers.specs.Answers.{answer_grammar}
 use Rattle.cp_group_state.specs.declared.rows.Holder.{Holder}
 use Rattle.cp_group_state.specs.declared.rows.LockRow.{LockRow}
 use Rattle.cp_group_state.specs.Rows.{Named, find, put, has_room, most, name_cmp}
-use Rattle.cp_group_state.specs.Locks as locks
-use Rattle.cp_group_state.specs.Locks.{Acquired, Release, Taken, Fence, Limit, Busy, free_lock, held_once, or_free, lock_at, is_free, is_held_by, is_held_among, most_holds, acquired, Freed, NotOwner, released_by, held_among, freed, freed_all}
+use Rattle.cp_group_state.specs.declared.outcome.Released.TheVariants as locks
+use Rattle.cp_group_state.specs.declared.outcome.Taken.{Taken}
+use Rattle.cp_group_state.specs.declared.outcome.Taken.TheVariants.{Fence, Limit, Busy}
+use Rattle.cp_group_state.specs.declared.outcome.Released.TheVariants.{Freed, NotOwner}
+use Rattle.cp_group_state.specs.Locks.{Acquired, Release, free_lock, held_once, or_free, lock_at, is_free, is_held_by, is_held_among, most_holds, acquired, released_by, held_among, freed, freed_all}
 use Rattle.cp_group_state.specs.LockRules.{owner_answer}
 use Rattle.cp_group_state.proofs.Keyed.{name_key, find-put_same}
 use Rattle.cp_group_state.proofs.Walk.{cases, either}

@@ -33,17 +33,25 @@ use Rattle.cp_group_state.specs.Rows.{Object, find, put, has_room, most, object_
 use Rattle.cp_group_state.specs.Waiters.{Ended, waits_on, first, same_call, answered_by, ending, still_waiting, stands}
 use Rattle.cp_group_state.specs.Memory.{has_memory, note_at, note, note_all}
 use Rattle.cp_group_state.specs.Sessions.{is_of, is_open_for, session_of, is_among, unchanged_since, beaten}
-use Rattle.cp_group_state.specs.Locks.{Taken, Fence, Limit, Busy, Released, Freed, Kept, NotOwner, acquired, released_by, held_among}
-use Rattle.cp_group_state.specs.Semaphores.{Semaphores, SemStep, SemOutcome, is_held, held, set_held, take, at_least_none, raise_total, release_held, sem_step, sem_step_on, served, take_on, take_all}
-use Rattle.cp_group_state.specs.Semaphores as semaphore
-use Rattle.cp_group_state.specs.Latches.{LatchOutcome, latch_step}
-use Rattle.cp_group_state.specs.Latches as countdown
+use Rattle.cp_group_state.specs.declared.outcome.Taken.{Taken}
+use Rattle.cp_group_state.specs.declared.outcome.Taken.TheVariants.{Fence, Limit, Busy}
+use Rattle.cp_group_state.specs.declared.outcome.Released.{Released}
+use Rattle.cp_group_state.specs.declared.outcome.Released.TheVariants.{Freed, Kept, NotOwner}
+use Rattle.cp_group_state.specs.Locks.{acquired, released_by, held_among}
+use Rattle.cp_group_state.specs.declared.outcome.SemOutcome.{SemOutcome}
+use Rattle.cp_group_state.specs.Semaphores.{Semaphores, SemStep, is_held, held, set_held, take, at_least_none, raise_total, release_held, sem_step, sem_step_on, served, take_on, take_all}
+use Rattle.cp_group_state.specs.declared.outcome.SemOutcome.TheVariants as semaphore
+use Rattle.cp_group_state.specs.declared.outcome.LatchOutcome.{LatchOutcome}
+use Rattle.cp_group_state.specs.Latches.{latch_step}
+use Rattle.cp_group_state.specs.declared.outcome.LatchOutcome.TheVariants as countdown
 use Rattle.cp_group_state.specs.GroupState.{GroupState, empty}
 use Rattle.cp_group_state.specs.Changes.{Change, for_each, finish, end_all}
 use Rattle.cp_group_state.specs.Serving.{serve_from, serve, left_by, serve_left, hand_to, hand_over}
 use Rattle.cp_group_state.specs.Closing.{free_locks, free_permits, concerned, end_sessions, close}
 use Rattle.cp_group_state.specs.Destroying.{add_gone, drop_rows, destroy_rule, names_gone, object_of}
-use Rattle.cp_group_state.specs.Outcomes.{Reply, Answered, Waits, Outcome, wait}
+use Rattle.cp_group_state.specs.declared.outcome.Reply.{Reply}
+use Rattle.cp_group_state.specs.declared.outcome.Reply.TheVariants.{Answered, Waits}
+use Rattle.cp_group_state.specs.Outcomes.{Outcome, wait}
 use Rattle.cp_group_state.specs.LockRules.{on_taken, on_released, lock_rule}
 use Rattle.cp_group_state.specs.SemaphoreRules.{on_sem, sem_wait, is_behind, sem_rule}
 use Rattle.cp_group_state.specs.LatchRules.{on_latch}

@@ -29,16 +29,24 @@ use Rattle.cp_group_state.specs.declared.rows.SessionRow.{SessionRow}
 use Rattle.cp_group_state.specs.Rows.{Object, find, put, has_room, most, object_cmp}
 use Rattle.cp_group_state.specs.Waiters.{first, same_client, waits_on, first_on}
 use Rattle.cp_group_state.specs.Sessions.{session_of, beaten}
-use Rattle.cp_group_state.specs.Locks.{Taken, Fence, Limit, Busy, Released, Freed, Kept, NotOwner, acquired, released_by}
-use Rattle.cp_group_state.specs.Semaphores.{SemOutcome, sem_step}
-use Rattle.cp_group_state.specs.Semaphores as semaphore
-use Rattle.cp_group_state.specs.Latches.{LatchOutcome, latch_step}
-use Rattle.cp_group_state.specs.Latches as countdown
+use Rattle.cp_group_state.specs.declared.outcome.Taken.{Taken}
+use Rattle.cp_group_state.specs.declared.outcome.Taken.TheVariants.{Fence, Limit, Busy}
+use Rattle.cp_group_state.specs.declared.outcome.Released.{Released}
+use Rattle.cp_group_state.specs.declared.outcome.Released.TheVariants.{Freed, Kept, NotOwner}
+use Rattle.cp_group_state.specs.Locks.{acquired, released_by}
+use Rattle.cp_group_state.specs.declared.outcome.SemOutcome.{SemOutcome}
+use Rattle.cp_group_state.specs.Semaphores.{sem_step}
+use Rattle.cp_group_state.specs.declared.outcome.SemOutcome.TheVariants as semaphore
+use Rattle.cp_group_state.specs.declared.outcome.LatchOutcome.{LatchOutcome}
+use Rattle.cp_group_state.specs.Latches.{latch_step}
+use Rattle.cp_group_state.specs.declared.outcome.LatchOutcome.TheVariants as countdown
 use Rattle.cp_group_state.specs.Atomics.{long_step, ref_step}
 use Rattle.cp_group_state.specs.Maps.{map_step}
 use Rattle.cp_group_state.specs.GroupState.{GroupState}
 use Rattle.cp_group_state.specs.Changes.{Change}
-use Rattle.cp_group_state.specs.Outcomes.{Reply, Answered, Waits, Outcome, answered, answered_with, wait}
+use Rattle.cp_group_state.specs.declared.outcome.Reply.{Reply}
+use Rattle.cp_group_state.specs.declared.outcome.Reply.TheVariants.{Answered, Waits}
+use Rattle.cp_group_state.specs.Outcomes.{Outcome, answered, answered_with, wait}
 use Rattle.cp_group_state.specs.LockRules.{on_taken, on_released, lock_rule}
 use Rattle.cp_group_state.specs.SemaphoreRules.{on_sem, sem_wait, is_acquire, is_behind, sem_rule}
 use Rattle.cp_group_state.specs.LatchRules.{latch_wait, on_latch, latch_rule}

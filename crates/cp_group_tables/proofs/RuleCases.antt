@@ -22,11 +22,14 @@ use Rattle.cp_group_state.specs.declared.rows.Waiter.{Waiter}
 use Rattle.cp_group_state.specs.Rows.{Named, Object, find, has_room, most, name_cmp, object_cmp}
 use Rattle.cp_group_state.specs.Waiters.{Ended, waits_on}
 use Rattle.cp_group_state.specs.Locks.{Acquired, acquired, lock_at, is_free, is_held_by, most_holds}
-use Rattle.cp_group_state.specs.Semaphores.{Semaphores, SemStep, Wants, sem_step, sem_step_on, sem_step_at, sem_step_absent, raise_total, release_held, is_held, held, served}
+use Rattle.cp_group_state.specs.declared.outcome.SemOutcome.TheVariants.{Wants}
+use Rattle.cp_group_state.specs.Semaphores.{Semaphores, SemStep, sem_step, sem_step_on, sem_step_at, sem_step_absent, raise_total, release_held, is_held, held, served}
 use Rattle.cp_group_state.specs.Sessions.{session_of}
 use Rattle.cp_group_state.specs.GroupState.{GroupState}
 use Rattle.cp_group_state.specs.Changes.{Change}
-use Rattle.cp_group_state.specs.Outcomes.{Reply, Answered, Waits, answered}
+use Rattle.cp_group_state.specs.declared.outcome.Reply.{Reply}
+use Rattle.cp_group_state.specs.declared.outcome.Reply.TheVariants.{Answered, Waits}
+use Rattle.cp_group_state.specs.Outcomes.{answered}
 use Rattle.cp_group_state.specs.SessionRules as rules
 use Rattle.cp_group_state.specs.Protected.{session_in}
 use Rattle.cp_group_state.specs.Apply.{outcome, settle, settle_answer, settle_wait, after_change}

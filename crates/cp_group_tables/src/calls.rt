@@ -143,8 +143,8 @@ impl GroupTables {
             (self.new ≡ (by_memory index call.now op.now (find holder_cmp self.old.memory (session, call.now.thread.0)) self.old).state) }
         ensures told { OnOk result
             (out.new
-                ≡ out.old
-                    ++ (by_memory index call.now op.now (find holder_cmp self.old.memory (session, call.now.thread.0)) self.old).answers) }
+            ≡ out.old
+            ++ (by_memory index call.now op.now (find holder_cmp self.old.memory (session, call.now.thread.0)) self.old).answers) }
     {
         match look_back(&self.memory, session, call)? {
             Recall::New => self.perform(index, call, op, out),
@@ -185,7 +185,7 @@ impl GroupTables {
     ) -> Result<Items<Waiter>, NoMemory>
         ensures ended { IfOk result
             (λ ended. ended_by (ending.Cancelled call.now.number) ended
-                ≡ (end_all (is_older call.now) (λ w. answer.WaitCancelled call.now.number) self.old).ended) }
+            ≡ (end_all (is_older call.now) (λ w. answer.WaitCancelled call.now.number) self.old).ended) }
         ensures state { OnOk result (self.new ≡ (end_all (is_older call.now) (λ w. answer.WaitCancelled call.now.number) self.old).state) }
         ensures told { OnOk result
             (out.new ≡ out.old ++ told (end_all (is_older call.now) (λ w. answer.WaitCancelled call.now.number) self.old).ended) }

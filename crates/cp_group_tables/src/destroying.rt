@@ -1,7 +1,7 @@
 //! Objects that are destroyed.
 ghost use Rattle.std.specs.Prelude.{◌≡◌, ◌++◌, if◌then◌else◌, IfOk, OnOk};
 ghost use Rattle.cp_group_state.specs.Rows.{has_room, most, object_cmp};
-ghost use Rattle.cp_group_state.specs.Outcomes.{Answered};
+ghost use Rattle.cp_group_state.specs.declared.outcome.Reply.TheVariants.{Answered};
 ghost use Rattle.cp_group_state.specs.Destroying.{add_gone, destroy_rule, drop_rows};
 ghost use Rattle.cp_group_state.specs.Apply.{told};
 

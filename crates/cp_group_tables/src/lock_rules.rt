@@ -2,7 +2,7 @@
 ghost use Rattle.std.specs.Prelude.{◌≡◌, ◌++◌, [], IfOk, OnOk};
 ghost use Rattle.cp_object_ops.specs.declared.lock_op.LockOp.TheVariants as lock;
 ghost use Rattle.cp_group_state.specs.LockRules.{lock_rule, owner_answer};
-ghost use Rattle.cp_group_state.specs.Outcomes.{Answered};
+ghost use Rattle.cp_group_state.specs.declared.outcome.Reply.TheVariants.{Answered};
 ghost use Rattle.cp_group_state.specs.Apply.{told};
 
 use crate::tables::GroupTables;

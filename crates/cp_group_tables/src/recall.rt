@@ -46,7 +46,7 @@ fn compare(row: &MemoryRow, call: &Invocation) -> Result<Recall, NoMemory>
 pub fn look_back(memory: &Memory, session: u64, call: &Invocation) -> Result<Recall, NoMemory>
     ensures { IfOk result
         (λ r. (index : ℕ) (o : Op) (s : GroupState)
-            → by_memory index call.now o (find holder_cmp memory.now (session, call.now.thread.0)) s ≡ recalled r index call.now o s) }
+        → by_memory index call.now o (find holder_cmp memory.now (session, call.now.thread.0)) s ≡ recalled r index call.now o s) }
 {
     match memory.find(session, call.thread) {
         Some(row) => compare(row, call),

@@ -10,6 +10,6 @@ mod writing;
 
 pub use adapters::{Reading, Writing};
 pub use memory::{MemorySink, MemorySource};
-pub use reading::{MOST, ReadEnd, read_all};
+pub use reading::{ReadEnd, read_all};
 pub use traits::{Failed, Fault, NoMemory, Sink, Source};
 pub use writing::write_all;

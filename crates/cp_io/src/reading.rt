@@ -3,11 +3,9 @@ ghost use Rattle.std.specs.Prelude.{◌≡◌, ◌≤◌, ◌<◌, ◌^◌, IfOk
 ghost use Rattle.cp_io.specs.Causes.{GaveAll, ReadCause};
 
 use crate::traits::{Failed, Source};
+use cp_base::limits::MOST_SOURCE;
 use std::alloc::Global;
 use thiserror::Error;
-
-/// The most bytes that a source may give: 16 MiB.
-pub const MOST: usize = 16_777_216;
 
 const PIECE: usize = 4096;
 
@@ -17,7 +15,7 @@ pub enum ReadEnd {
     /// The source failed, and counted it.
     #[error("read fault")]
     Failed,
-    /// The source gives more than `MOST` bytes.
+    /// The source gives more than `MOST_SOURCE` bytes.
     #[error("input too long")]
     TooLong,
     /// There was no memory.
@@ -25,10 +23,10 @@ pub enum ReadEnd {
     NoMemory,
 }
 
-/// Reads a source to its end, and gives all its bytes: at most `MOST`.
+/// Reads a source to its end, and gives all its bytes: at most `MOST_SOURCE`.
 pub fn read_all<S: Source>(alloc: Global, source: &mut S) -> Result<Vec<u8>, ReadEnd>
-    ensures ok { IfOk result (λ bytes. GaveAll MOST (S.left source.old) (S.left source.new) bytes.items) }
-    ensures err { IfErr result (ReadCause MOST (S.left source.old) (S.faults source.old) (S.faults source.new)) }
+    ensures ok { IfOk result (λ bytes. GaveAll MOST_SOURCE (S.left source.old) (S.left source.new) bytes.items) }
+    ensures err { IfErr result (ReadCause MOST_SOURCE (S.left source.old) (S.faults source.old) (S.faults source.new)) }
     ensures later { S.faults source.old ≤ S.faults source.new }
 {
     let mut out = Vec::new(alloc);
@@ -41,7 +39,7 @@ pub fn read_all<S: Source>(alloc: Global, source: &mut S) -> Result<Vec<u8>, Rea
         if count == 0 {
             return Ok(out);
         }
-        if out.len() + count > MOST {
+        if out.len() + count > MOST_SOURCE {
             return Err(ReadEnd::TooLong);
         }
         if out.extend_from_slice(&piece[..count]).is_err() {

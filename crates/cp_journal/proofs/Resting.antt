@@ -3,6 +3,7 @@ use Rattle.std.proofs.Common.{Bool, true, false, ◌≡◌, ◌≤◌, ◌<◌, 
 use Rattle.std.specs.Prelude.{slice_index, Some, None, ◌==◌, if◌then◌else◌}
 use Rattle.std.proofs.lemmas.Grind.{common_steps}
 use Rattle.std.proofs.lemmas.Bool.Decides.{nat_tests}
+use Rattle.cp_base.specs.declared.limits.TheConstants.{BODY_LIMIT}
 use Rattle.cp_journal.specs.Records.{body_at, gate_from, is_whole, next_gate, size_at}
 use Rattle.cp_journal.specs.Frames.{AreFrames, IsAtRest, IsFrame, Rests}
 use Rattle.cp_journal.proofs.Walks.{frames_le, open_gate, whole}
@@ -21,7 +22,7 @@ body_length gate file within = grind (arith, common_steps)
 pub frame_of : (gate : ℕ) (file : List ℕ) → 0 < slice_index file gate → is_whole gate file ≡ true → IsFrame gate (body_at gate file) file × (next_gate gate file < length file)
 frame_of gate file is_open test =
     let some : 1 ≤ size_at gate file = grind (arith, nat_tests) in
-    let most : size_at gate file ≤ 67108864 = grind (arith, nat_tests) in
+    let most : size_at gate file ≤ BODY_LIMIT = grind (arith, nat_tests) in
     let within : next_gate gate file < length file = grind (arith, nat_tests) in
     let size = body_length gate file within in (
       record { is_open = is_open; size = sym size; holds = refl; is_body = record { some = omega (arith, size, some); most = omega (arith, size, most) } },

@@ -7,6 +7,7 @@ use Rattle.std.proofs.lemmas.Bool.Decides.{nat_tests}
 use Rattle.std.proofs.Math.Seq.{get_or-append_seam}
 use Rattle.std.proofs.lemmas.Nat.{from_be_bytes-to_be_bytes_4}
 use Rattle.cp_disk.specs.Images.{written, Torn, Shortened}
+use Rattle.cp_base.specs.declared.limits.TheConstants.{BODY_LIMIT}
 use Rattle.cp_journal.specs.Records.{IsBody, IsBeforeOrAfter, and_record, body_at, is_whole, next_gate, record_bytes, records_from, records_of, size_at, with_first}
 use Rattle.cp_journal.specs.Frames.{AreFrames, IsClosed, IsFrame}
 use Rattle.cp_journal.proofs.Lists.{same_part, middle}
@@ -56,7 +57,7 @@ open_gate gate file is = grind (arith, nat_tests)
 pub whole : (gate : ℕ) (body file : List ℕ) → IsFrame gate body file → gate + 5 + length body < length file → is_whole gate file ≡ true
 whole gate body file is within =
     let some : 1 ≤ size_at gate file = omega (arith, is.size, is.is_body.some) in
-    let most : size_at gate file ≤ 67108864 = omega (arith, is.size, is.is_body.most) in
+    let most : size_at gate file ≤ BODY_LIMIT = omega (arith, is.size, is.is_body.most) in
     let next : next_gate gate file < length file = omega (arith, is.size, within) in
     grind (arith, nat_tests, some, most, next)
 

@@ -1,6 +1,7 @@
 -- When a call of a journal may answer an error.
 use Rattle.std.specs.Prelude.{◌≡◌, ◌≤◌, ℕ, List, Err, IfErr}
 use Rattle.std.specs.declared.result.Result.{Result}
+use Rattle.cp_disk.specs.declared.disk.Disk.{Ghosts}
 use Rattle.cp_journal.specs.declared.error.JournalError.{JournalError}
 use Rattle.cp_journal.specs.declared.error.JournalError.TheVariants as error
 use Rattle.cp_base.specs.Faults.{Rose}
@@ -12,11 +13,12 @@ DiskCause before now error.Full = Unit {0}
 DiskCause before now (error.BadFrame place) = Unit {0}
 DiskCause before now error.NoMemory = Unit {0}
 
--- no count of the disk falls, and a disk fault comes only where its count rose
-pub record CountsDisk {T : Type 0} (before now starved_before starved_now : ℕ) (result : Result T JournalError) : Type 0 where
-  pub later : before ≤ now
-  pub starved_later : starved_before ≤ starved_now
-  pub failed : IfErr result (DiskCause before now)
+-- no count of the disk falls, no order was given, and a disk fault comes only where its count rose
+pub record CountsDisk {D T : Type 0} (disks : Ghosts D) (old new : D) (result : Result T JournalError) : Type 0 where
+  pub later : disks.faults old ≤ disks.faults new
+  pub starved_later : disks.starved old ≤ disks.starved new
+  pub orders : disks.orders new ≡ disks.orders old
+  pub failed : IfErr result (DiskCause (disks.faults old) (disks.faults new))
 
 -- why a run of reads ended
 abbrev pub ReadCause : (before now : ℕ) → JournalError → Type 0

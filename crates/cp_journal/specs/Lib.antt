@@ -7,3 +7,4 @@ pub mod Journals
 pub mod Found
 pub mod Opening
 pub mod Runs
+pub mod Opened

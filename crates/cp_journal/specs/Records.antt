@@ -1,11 +1,12 @@
 -- What a journal file spells: a gate, and behind each open gate a record and a gate. A gate is closed exactly where it is 0.
 use Rattle.std.specs.Prelude.{Bool, ◌≡◌, ◌≤◌, ◌+◌, ◌==◌, ◌&&◌, ◌⊎◌, ℕ, zero, suc, List, [], ◌∷◌, ◌++◌, length, take, drop, slice_index, Result, Ok, Err, Option, Some, None, nat_lt, if◌then◌else◌}
 use Rattle.std.specs.Int.{w32, to_be_bytes, from_be_bytes}
+use Rattle.cp_base.specs.declared.limits.TheConstants.{BODY_LIMIT}
 
 -- a body has 1 to 2^26 bytes
 pub record IsBody (body : List ℕ) : Type 0 where
   pub some : 1 ≤ length body
-  pub most : length body ≤ 67108864
+  pub most : length body ≤ BODY_LIMIT
 
 -- what is appended for a body: its length, the body, and a closed gate
 abbrev pub record_bytes : List ℕ → List ℕ
@@ -21,7 +22,7 @@ next_gate gate file = gate + 5 + size_at gate file
 
 -- whether a whole record and a gate stand behind a gate
 abbrev pub is_whole : ℕ → List ℕ → Bool
-is_whole gate file = nat_lt 0 (size_at gate file) && nat_lt (size_at gate file) 67108865 && nat_lt (next_gate gate file) (length file)
+is_whole gate file = nat_lt 0 (size_at gate file) && nat_lt (size_at gate file) (BODY_LIMIT + 1) && nat_lt (next_gate gate file) (length file)
 
 abbrev pub body_at : ℕ → List ℕ → List ℕ
 body_at gate file = take (size_at gate file) (drop (gate + 5) file)

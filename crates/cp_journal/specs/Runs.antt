@@ -2,9 +2,21 @@
 use Rattle.std.specs.Prelude.{◌≡◌, ℕ, List, [], Ok}
 use Rattle.cp_disk.specs.declared.disk.Disk.{Ghosts}
 use Rattle.cp_disk.specs.Images.{NoMore, Only}
-use Rattle.cp_journal.specs.Moments.{LeavesOnly}
+use Rattle.cp_journal.specs.Moments.{LeavesOnly, Stays}
 use Rattle.cp_journal.specs.Opening.{IsImageOrSame}
 use Rattle.cp_journal.specs.Records.{IsBeforeOrAfter, records_of}
+
+-- where the disk tells its bytes, all of them are on it
+abbrev pub IsSynced : {D : Type 0} → Ghosts D → D → Type 0
+IsSynced disks disk = disks.Told → Only (disks.seen disk) (disks.may_leave disk)
+
+-- where the disk tells its bytes, it stays as it reads, at each moment
+abbrev pub IsStill : {D : Type 0} → Ghosts D → D → D → Type 0
+IsStill disks old new = disks.Told → Stays disks.seen disks.may_leave disks.moment disks.left_since old new
+
+-- where the disk tells its bytes, a crash at any moment leaves a file with the records from before
+abbrev pub KeepsRecords : {D : Type 0} → Ghosts D → D → D → Type 0
+KeepsRecords disks old new = disks.Told → LeavesOnly disks.moment disks.left_since old new (λ image. records_of image ≡ records_of (disks.seen old))
 
 -- What opening a disk promises, answered or refused: a crash at any moment of the call leaves what it could leave before,
 -- or the same records.

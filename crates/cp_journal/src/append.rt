@@ -1,6 +1,7 @@
 //! One append: the record behind the closed gate, and then the gate.
 ghost use Rattle.std.specs.Prelude.{◌≡◌, ◌≤◌, ◌<◌, ◌+◌, ◌^◌, List, ℕ, length, take, IfOk, OnOk, IsErrOf};
 ghost use Rattle.cp_disk.specs.declared.disk.Fault.TheVariants as fault;
+ghost use Rattle.cp_base.specs.declared.limits.TheConstants.{BODY_LIMIT};
 ghost use Rattle.cp_disk.specs.Images.{written};
 ghost use Rattle.cp_journal.specs.Causes.{CountsRun};
 ghost use Rattle.cp_journal.specs.Frames.{IsAtRest};
@@ -25,7 +26,7 @@ fn put(bytes: &mut [u8], at: usize, piece: &[u8])
 
 /// A body's length, the body and a closed gate, with zeros behind them.
 pub(crate) fn small_record(body: &[u8]) -> [u8; 69]
-    requires { length body.now ≤ 64 }
+    requires { length body.now ≤ SMALL }
     ensures { take (length body.now + 5) result ≡ record_bytes body.now }
 {
     let mut bytes = [0u8; 69];
@@ -36,7 +37,7 @@ pub(crate) fn small_record(body: &[u8]) -> [u8; 69]
 
 /// A body's length, the body and a closed gate.
 pub(crate) fn long_record(alloc: Global, body: &[u8]) -> Result<Vec<u8>, NoMemory>
-    requires { length body.now ≤ 67108864 }
+    requires { length body.now ≤ BODY_LIMIT }
     ensures { IfOk result (λ bytes. bytes.items ≡ record_bytes body.now) }
 {
     let mut bytes = Vec::with_capacity(alloc, body.len() + 5)?;
@@ -57,8 +58,7 @@ pub(crate) fn append_record<D: Disk>(disk: &mut D, gate: u64, bytes: &[u8]) -> R
         IsAtRest gate (D.seen disk.new) (D.may_leave disk.new) × (records_of (D.seen disk.new) ≡ records_of (D.seen disk.old)) }
     ensures any_moment { (body : List ℕ) → IsBody body → bytes.now ≡ record_bytes body → D.Told →
         LeavesOnly D.moment D.left_since disk.old disk.new (IsBeforeOrAfter (records_of (D.seen disk.old)) body) }
-    ensures cause { CountsRun (D.faults disk.old) (D.faults disk.new) (D.starved disk.old) (D.starved disk.new) result }
-    ensures orders { D.orders disk.new ≡ D.orders disk.old }
+    ensures cause { CountsRun D.Disk disk.old disk.new result }
 {
     write_synced(disk, gate + 1, bytes)?;
     match write_synced(disk, gate, &[1]) {

@@ -1,7 +1,15 @@
 //! The journal.
-ghost use Rattle.std.specs.Prelude.{false, Some, ◌≡◌, ◌≢◌, ◌≤◌, ◌<◌, ◌+◌, ◌-◌, ◌^◌, ◌↔◌, List, ℕ, length, IfOk, IfErr, MatchResult, OnOk, IsErrOf};
+//!
+//! A file is a gate of one byte, and behind each open gate a record and a gate: the body's length in four bytes, big-endian, the body,
+//! and the next gate. A gate is closed where it is 0. The records before the first closed gate count; what stands behind it doesn't.
+//! An append writes the record with a closed gate of its own behind the closed gate, and syncs; then it opens that gate, and syncs.
+//! Two syncs: with one, a crash could leave the gate open and the record torn. So a crash leaves the gate closed, and the records from
+//! before, or open, and one more. Opening syncs first, reads the records, cuts what stands behind the closed gate, and syncs.
+ghost use Rattle.std.specs.Prelude.{true, false, Some, ◌≡◌, ◌≢◌, ◌≤◌, ◌<◌, ◌+◌, ◌-◌, ◌^◌, ◌↔◌, List, ℕ, length, IfOk, IfErr, MatchResult, OnOk, IsErrOf};
 ghost use Rattle.cp_base.specs.Faults.{Rose};
+ghost use Rattle.cp_base.specs.declared.limits.TheConstants.{LAST_NUMBER};
 ghost use Rattle.cp_disk.specs.Images.{Elapses, NoMore, Only};
+ghost use Rattle.cp_disk.specs.Tallies.{Tallies};
 ghost use Rattle.cp_journal.specs.Errors.{CountsDisk, OpenCause};
 ghost use Rattle.cp_journal.specs.declared.error.JournalError.TheVariants as error;
 ghost use Rattle.cp_journal.specs.Frames.{IsAtRest};
@@ -14,11 +22,9 @@ use crate::JournalError;
 use crate::append::{SMALL, append_record, long_record, small_record};
 use crate::opening::recover;
 use cp_base::NoMemory;
+use cp_base::limits::FILE_LIMIT;
 use cp_disk::{CrashDisk, Disk, Fault};
 use std::alloc::Global;
-
-/// The most bytes of a journal's file.
-const FILE_LIMIT: u64 = 1 << 30;
 
 /// A journal over a disk: a file of records, each whole on the disk before the call that appends it answers Ok.
 #[derive(Drop)]
@@ -46,8 +52,8 @@ impl<D: Disk> Journal<D> {
         // A disk that was empty, and that journals alone wrote, has no bad frame.
         ensures own { D.Told → IsOwn D.Disk disk → IfErr result (λ refused. (place : ℕ) → refused.1 ≢ error.BadFrame place) }
         ensures counts { MatchResult result
-            (λ opened. (D.faults disk ≤ D.faults (disk_of opened.0)) × ((D.starved disk ≤ D.starved (disk_of opened.0)) × (D.orders (disk_of opened.0) ≡ D.orders disk)))
-            (λ refused. (D.faults disk ≤ D.faults refused.0) × ((D.starved disk ≤ D.starved refused.0) × (D.orders refused.0 ≡ D.orders disk))) }
+            (λ opened. Tallies D.Disk disk (disk_of opened.0))
+            (λ refused. Tallies D.Disk disk refused.0) }
     {
         let mut disk = disk;
         match recover(alloc, &mut disk) {
@@ -66,17 +72,17 @@ impl<D: Disk> Journal<D> {
     /// Appends a record and counts its bytes.
     fn put(&mut self, bytes: &[u8]) -> Result<(), JournalError>
         requires whole { self.old.spent ≡ false }
-        requires room { self.old.end + length bytes.now ≤ 1073741824 }
+        requires room { self.old.end + length bytes.now ≤ FILE_LIMIT }
         requires body { (body : List ℕ) × IsBody body × (bytes.now ≡ record_bytes body) }
         ensures appended { (body : List ℕ) → IsBody body → bytes.now ≡ record_bytes body → D.Told → OnOk result (records_of (D.seen self.new.disk) ≡ and_record (records_of (D.seen self.old.disk)) body) }
         ensures refused { D.Told → IsErrOf result error.NoMemory → records_of (D.seen self.new.disk) ≡ records_of (D.seen self.old.disk) }
         ensures any_moment { (body : List ℕ) → IsBody body → bytes.now ≡ record_bytes body → D.Told → Appends D.Disk body self.old.disk self.new.disk }
         ensures ok { OnOk result ((self.new.spent ≡ false) × (self.new.end ≡ self.old.end + length bytes.now)) }
         ensures starved { IsErrOf result error.NoMemory → (self.new.spent ≡ false) × ((self.new.end ≡ self.old.end) × Rose (D.starved self.old.disk) (D.starved self.new.disk)) }
+        ensures fault { IsErrOf result error.DiskFault → self.new.spent ≡ true }
         ensures not_full { IsErrOf result error.Full → ⊥ }
         ensures not_bad { (place : ℕ) → IsErrOf result (error.BadFrame place) → ⊥ }
-        ensures cause { CountsDisk (D.faults self.old.disk) (D.faults self.new.disk) (D.starved self.old.disk) (D.starved self.new.disk) result }
-        ensures orders { D.orders self.new.disk ≡ D.orders self.old.disk }
+        ensures cause { CountsDisk D.Disk self.old.disk self.new.disk result }
     {
         self.spent = true;
         match append_record(&mut self.disk, self.end - 1, bytes) {
@@ -106,15 +112,15 @@ impl<D: Disk> Journal<D> {
 
         ensures ok { OnOk result ((is_spent self.new ≡ false) × (end_of self.new ≡ end_of self.old + (length body.now + 5))) }
         ensures starved { IsErrOf result error.NoMemory → (is_spent self.new ≡ false) × (end_of self.new ≡ end_of self.old) }
+        ensures fault { IsErrOf result error.DiskFault → is_spent self.new ≡ true }
         ensures kept { D.Told → IsErrOf result error.NoMemory → records_of (D.seen (disk_of self.new)) ≡ records_of (D.seen (disk_of self.old)) }
 
         // A small record takes memory of the disk alone.
-        ensures frugal { length body.now ≤ 64 → IsErrOf result error.NoMemory → Rose (D.starved (disk_of self.old)) (D.starved (disk_of self.new)) }
-        ensures full { IsErrOf result error.Full ↔ (1073741824 < end_of self.old + (length body.now + 5)) }
+        ensures frugal { length body.now ≤ SMALL → IsErrOf result error.NoMemory → Rose (D.starved (disk_of self.old)) (D.starved (disk_of self.new)) }
+        ensures full { IsErrOf result error.Full ↔ (FILE_LIMIT < end_of self.old + (length body.now + 5)) }
         ensures full_kept { IsErrOf result error.Full → (disk_of self.new ≡ disk_of self.old) × ((is_spent self.new ≡ false) × (end_of self.new ≡ end_of self.old)) }
         ensures not_bad { (place : ℕ) → IsErrOf result (error.BadFrame place) → ⊥ }
-        ensures cause { CountsDisk (D.faults (disk_of self.old)) (D.faults (disk_of self.new)) (D.starved (disk_of self.old)) (D.starved (disk_of self.new)) result }
-        ensures orders { D.orders (disk_of self.new) ≡ D.orders (disk_of self.old) }
+        ensures cause { CountsDisk D.Disk (disk_of self.old) (disk_of self.new) result }
     {
         let size = body.len() as u64 + 5;
         if self.end > FILE_LIMIT - size {
@@ -156,9 +162,10 @@ impl<D: CrashDisk> Journal<D> {
 
     /// Hands the number to the disk.
     pub fn stop_after(&mut self, calls: u64)
-        requires { D.Disk.orders (disk_of self.old) < 2 ^ 62 }
+        requires { D.Disk.orders (disk_of self.old) < LAST_NUMBER }
         ensures seen { D.Disk.Told → D.Disk.seen (disk_of self.new) ≡ D.Disk.seen (disk_of self.old) }
-        ensures crash { D.Disk.Told → NoMore (D.Disk.may_leave (disk_of self.old)) (D.Disk.may_leave (disk_of self.new)) }
+        ensures crash { D.Disk.Told → NoMore (D.Disk.may_leave (disk_of self.old)) (D.Disk.may_leave (disk_of self.new))
+            × NoMore (D.Disk.may_leave (disk_of self.new)) (D.Disk.may_leave (disk_of self.old)) }
         ensures time { D.Disk.Told → Elapses (D.Disk.moment (disk_of self.old)) (D.Disk.moment (disk_of self.new)) (D.Disk.left_since (disk_of self.old)) (D.Disk.left_since (disk_of self.new)) (D.Disk.may_leave (disk_of self.new)) }
         ensures orders { D.Disk.orders (disk_of self.new) ≡ D.Disk.orders (disk_of self.old) + 1 }
         ensures counts { (D.Disk.faults (disk_of self.new) ≡ D.Disk.faults (disk_of self.old)) × (D.Disk.starved (disk_of self.new) ≡ D.Disk.starved (disk_of self.old)) }

@@ -1,21 +1,20 @@
 //! Reading the records of a file.
 ghost use Rattle.std.specs.Prelude.{true, false, nat_lt, ◌==◌, ◌&&◌, ◌^◌, IfSome, ◌≡◌, ◌≤◌, ◌<◌, ◌+◌, List, ℕ, length, take, drop, slice_index, ◌++◌, [], ◌∷◌, IfOk, IfErr, OnOk, Ok, Err, Option, Some, None, if◌then◌else◌};
 ghost use Rattle.std.specs.Int.{w32, from_be_bytes};
-ghost use Rattle.cp_disk.specs.Images.{Only};
+ghost use Rattle.cp_disk.specs.Tallies.{Tallies};
 ghost use Rattle.cp_journal.specs.Causes.{CountsRun};
-ghost use Rattle.cp_journal.specs.Errors.{OpenCause, ReadCause};
+ghost use Rattle.cp_journal.specs.Errors.{ReadCause};
 ghost use Rattle.cp_journal.specs.Found.{FitsIn, IsFound, lists};
 ghost use Rattle.cp_journal.specs.Frames.{IsClosed};
-ghost use Rattle.cp_journal.specs.Moments.{Stays};
-ghost use Rattle.cp_journal.specs.Records.{is_whole, size_at, records_of};
+ghost use Rattle.cp_journal.specs.Opened.{OpeningCause};
+ghost use Rattle.cp_journal.specs.Records.{is_whole, size_at};
+ghost use Rattle.cp_journal.specs.Runs.{IsStill, IsSynced};
 
 use crate::JournalError;
 use crate::steps::read_at;
+use cp_base::limits::BODY_LIMIT;
 use cp_disk::{Disk, Fault};
 use std::alloc::Global;
-
-/// The most bytes of a body.
-const BODY_LIMIT: u64 = 1 << 26;
 
 /// What stands at a gate: nothing where it is closed, no whole record and gate, or a body.
 #[derive(Debug, Drop)]
@@ -28,11 +27,10 @@ pub(crate) enum Found {
 /// Whether a gate is closed.
 fn is_closed<D: Disk>(disk: &mut D, gate: u64) -> Result<bool, Fault>
     requires within { D.Told → gate < length (D.seen disk.old) }
-    requires durable { D.Told → Only (D.seen disk.old) (D.may_leave disk.old) }
+    requires durable { IsSynced D.Disk disk.old }
     ensures closed { D.Told → IfOk result (λ closed. closed ≡ (slice_index (D.seen disk.old) gate == 0)) }
-    ensures stays { D.Told → Stays D.seen D.may_leave D.moment D.left_since disk.old disk.new }
-    ensures cause { CountsRun (D.faults disk.old) (D.faults disk.new) (D.starved disk.old) (D.starved disk.new) result }
-    ensures orders { D.orders disk.new ≡ D.orders disk.old }
+    ensures stays { IsStill D.Disk disk.old disk.new }
+    ensures cause { CountsRun D.Disk disk.old disk.new result }
 {
     let mut bytes = [0u8; 1];
     read_at(disk, gate, &mut bytes)?;
@@ -42,13 +40,12 @@ fn is_closed<D: Disk>(disk: &mut D, gate: u64) -> Result<bool, Fault>
 /// The length that stands behind a gate.
 fn read_size<D: Disk>(disk: &mut D, gate: u64) -> Result<u64, Fault>
     requires within { D.Told → gate + 5 ≤ length (D.seen disk.old) }
-    requires durable { D.Told → Only (D.seen disk.old) (D.may_leave disk.old) }
+    requires durable { IsSynced D.Disk disk.old }
     requires fits { gate + 5 < 2 ^ 64 }
     ensures size { D.Told → IfOk result (λ size. size ≡ size_at gate (D.seen disk.old)) }
     ensures small { IfOk result (λ size. size < 2 ^ 32) }
-    ensures stays { D.Told → Stays D.seen D.may_leave D.moment D.left_since disk.old disk.new }
-    ensures cause { CountsRun (D.faults disk.old) (D.faults disk.new) (D.starved disk.old) (D.starved disk.new) result }
-    ensures orders { D.orders disk.new ≡ D.orders disk.old }
+    ensures stays { IsStill D.Disk disk.old disk.new }
+    ensures cause { CountsRun D.Disk disk.old disk.new result }
 {
     let mut bytes = [0u8; 4];
     read_at(disk, gate + 1, &mut bytes)?;
@@ -58,7 +55,7 @@ fn read_size<D: Disk>(disk: &mut D, gate: u64) -> Result<u64, Fault>
 /// Whether a record of this length and a gate stand behind a gate.
 fn is_framed(gate: u64, size: u64, len: u64) -> bool
     requires { (gate + 5 < len) × (size < 2 ^ 32) }
-    ensures { result ≡ (nat_lt 0 size && nat_lt size 67108865 && nat_lt (gate + 5 + size) len) }
+    ensures { result ≡ (nat_lt 0 size && nat_lt size (BODY_LIMIT + 1) && nat_lt (gate + 5 + size) len) }
 {
     0 < size && size <= BODY_LIMIT && size < len - gate - 5
 }
@@ -67,12 +64,11 @@ fn is_framed(gate: u64, size: u64, len: u64) -> bool
 fn whole_size<D: Disk>(disk: &mut D, gate: u64, len: u64) -> Result<Option<u64>, Fault>
     requires within { gate < len }
     requires told { D.Told → len ≡ length (D.seen disk.old) }
-    requires durable { D.Told → Only (D.seen disk.old) (D.may_leave disk.old) }
+    requires durable { IsSynced D.Disk disk.old }
     ensures size { D.Told → IfOk result (λ size. size ≡ (if is_whole gate (D.seen disk.old) then Some (size_at gate (D.seen disk.old)) else None)) }
     ensures fits { IfOk result (λ size. IfSome size (λ n. gate + 5 + n < len)) }
-    ensures stays { D.Told → Stays D.seen D.may_leave D.moment D.left_since disk.old disk.new }
-    ensures cause { CountsRun (D.faults disk.old) (D.faults disk.new) (D.starved disk.old) (D.starved disk.new) result }
-    ensures orders { D.orders disk.new ≡ D.orders disk.old }
+    ensures stays { IsStill D.Disk disk.old disk.new }
+    ensures cause { CountsRun D.Disk disk.old disk.new result }
 {
     if len - gate <= 5 {
         return Ok(None);
@@ -93,13 +89,12 @@ fn read_body<D: Disk>(
     size: usize,
 ) -> Result<Vec<u8>, JournalError>
     requires within { D.Told → at + size ≤ length (D.seen disk.old) }
-    requires durable { D.Told → Only (D.seen disk.old) (D.may_leave disk.old) }
+    requires durable { IsSynced D.Disk disk.old }
     ensures body { D.Told → IfOk result (λ body. body.items ≡ take size (drop at (D.seen disk.old))) }
     ensures len { IfOk result (λ body. length body.items ≡ size) }
-    ensures stays { D.Told → Stays D.seen D.may_leave D.moment D.left_since disk.old disk.new }
+    ensures stays { IsStill D.Disk disk.old disk.new }
     ensures cause { IfErr result (ReadCause (D.faults disk.old) (D.faults disk.new)) }
-    ensures counts { (D.faults disk.old ≤ D.faults disk.new) × (D.starved disk.old ≤ D.starved disk.new) }
-    ensures orders { D.orders disk.new ≡ D.orders disk.old }
+    ensures tallies { Tallies D.Disk disk.old disk.new }
 {
     let mut bytes = match vec![in alloc; 0u8; size] {
         Ok(bytes) => bytes,
@@ -121,14 +116,13 @@ fn read_open<D: Disk>(
 ) -> Result<Found, JournalError>
     requires within { gate < len }
     requires told { D.Told → len ≡ length (D.seen disk.old) }
-    requires durable { D.Told → Only (D.seen disk.old) (D.may_leave disk.old) }
+    requires durable { IsSynced D.Disk disk.old }
     requires open { D.Told → 0 < slice_index (D.seen disk.old) gate }
     ensures found { D.Told → IfOk result (IsFound gate (D.seen disk.old)) }
     ensures fits { IfOk result (FitsIn gate len) }
-    ensures stays { D.Told → Stays D.seen D.may_leave D.moment D.left_since disk.old disk.new }
+    ensures stays { IsStill D.Disk disk.old disk.new }
     ensures cause { IfErr result (ReadCause (D.faults disk.old) (D.faults disk.new)) }
-    ensures counts { (D.faults disk.old ≤ D.faults disk.new) × (D.starved disk.old ≤ D.starved disk.new) }
-    ensures orders { D.orders disk.new ≡ D.orders disk.old }
+    ensures tallies { Tallies D.Disk disk.old disk.new }
 {
     match whole_size(disk, gate, len) {
         Ok(Some(size)) => match read_body(alloc, disk, gate + 5, size as usize) {
@@ -150,13 +144,12 @@ fn read_frame<D: Disk>(
 ) -> Result<Found, JournalError>
     requires within { gate < len }
     requires told { D.Told → len ≡ length (D.seen disk.old) }
-    requires durable { D.Told → Only (D.seen disk.old) (D.may_leave disk.old) }
+    requires durable { IsSynced D.Disk disk.old }
     ensures found { D.Told → IfOk result (IsFound gate (D.seen disk.old)) }
     ensures fits { IfOk result (FitsIn gate len) }
-    ensures stays { D.Told → Stays D.seen D.may_leave D.moment D.left_since disk.old disk.new }
+    ensures stays { IsStill D.Disk disk.old disk.new }
     ensures cause { IfErr result (ReadCause (D.faults disk.old) (D.faults disk.new)) }
-    ensures counts { (D.faults disk.old ≤ D.faults disk.new) × (D.starved disk.old ≤ D.starved disk.new) }
-    ensures orders { D.orders disk.new ≡ D.orders disk.old }
+    ensures tallies { Tallies D.Disk disk.old disk.new }
 {
     match is_closed(disk, gate) {
         Ok(true) => Ok(Found::Closed),
@@ -186,13 +179,12 @@ pub(crate) fn read_records<D: Disk>(
 ) -> Result<(Vec<Vec<u8>>, u64), JournalError>
     requires long { 2 ≤ len }
     requires told { D.Told → len ≡ length (D.seen disk.old) }
-    requires durable { D.Told → Only (D.seen disk.old) (D.may_leave disk.old) }
+    requires durable { IsSynced D.Disk disk.old }
     ensures records { D.Told → IfOk result (λ read. IsClosed (lists read.0.items) read.1 (D.seen disk.old)) }
     ensures within { IfOk result (λ read. read.1 < len) }
-    ensures stays { D.Told → Stays D.seen D.may_leave D.moment D.left_since disk.old disk.new }
-    ensures cause { IfErr result (OpenCause (D.faults disk.old) (D.faults disk.new) D.Told (records_of (D.seen disk.old))) }
-    ensures counts { (D.faults disk.old ≤ D.faults disk.new) × (D.starved disk.old ≤ D.starved disk.new) }
-    ensures orders { D.orders disk.new ≡ D.orders disk.old }
+    ensures stays { IsStill D.Disk disk.old disk.new }
+    ensures cause { IfErr result (OpeningCause D.Disk disk.old disk.new) }
+    ensures tallies { Tallies D.Disk disk.old disk.new }
 {
     let mut bodies = Vec::new(alloc);
     let mut gate = 0;

@@ -3,7 +3,8 @@ use Rattle.std.specs.Prelude.{◌≡◌, ◌≤◌, ◌+◌, All, ℕ, Bool, tru
 use Rattle.cp_base.specs.declared.limits.TheConstants.{LAST_NUMBER}
 use Rattle.cp_base.specs.declared.identifier.Invocation.{Invocation}
 use Rattle.cp_group_state.specs.Rows.{Named, find, put, has_room, most, name_cmp}
-use Rattle.cp_group_state.specs.Latches.{LatchStep, Done, latch_at, counted_calls, next_round, counted_down, is_over}
+use Rattle.cp_group_state.specs.declared.outcome.LatchOutcome.TheVariants.{Done}
+use Rattle.cp_group_state.specs.Latches.{LatchStep, latch_at, counted_calls, next_round, counted_down, is_over}
 use Rattle.cp_group_state.specs.declared.rows.LatchRow.{LatchRow}
 use Rattle.cp_answers.specs.declared.answer.Answer.TheVariants as answer
 use Rattle.cp_latch.specs.declared.rounds.Begun.{Begun}

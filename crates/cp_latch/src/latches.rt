@@ -3,7 +3,8 @@ ghost use Rattle.std.specs.Prelude.{◌≡◌, ◌≤◌, ◌==◌, [], ◌∷�
 ghost use Rattle.cp_answers.specs.declared.answer.Answer.TheVariants as answer;
 ghost use Rattle.cp_group_state.specs.Rows.{without, name_cmp};
 ghost use Rattle.cp_group_state.specs.Invariants.{IsRising};
-ghost use Rattle.cp_group_state.specs.Latches.{Done, Wants, Opened, counted_calls, latch_at, set_latch, count_down, latch_step};
+ghost use Rattle.cp_group_state.specs.declared.outcome.LatchOutcome.TheVariants.{Done, Wants, Opened};
+ghost use Rattle.cp_group_state.specs.Latches.{counted_calls, latch_at, set_latch, count_down, latch_step};
 ghost use Rattle.cp_latch.specs.Rounds.{AreRounds};
 
 use crate::Latch;

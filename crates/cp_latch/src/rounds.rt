@@ -1,7 +1,8 @@
 //! What calls do to the latch of a name.
 ghost use Rattle.std.specs.Prelude.{◌≡◌, [], None, IfOk, OnOk, OnErr};
 ghost use Rattle.cp_group_state.specs.Rows.{find, name_cmp};
-ghost use Rattle.cp_group_state.specs.Latches.{Done, counted_calls, new_latch, next_round};
+ghost use Rattle.cp_group_state.specs.declared.outcome.LatchOutcome.TheVariants.{Done};
+ghost use Rattle.cp_group_state.specs.Latches.{counted_calls, new_latch, next_round};
 ghost use Rattle.cp_latch.specs.Rounds.{with_row, IsBegun, IsBegunIn, IsDown, IsDownIn};
 
 use crate::Latch;

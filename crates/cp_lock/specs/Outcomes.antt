@@ -1,7 +1,10 @@
 -- How the errors of the calls stand for what the group's definitions say. Want of memory stands for nothing.
 use Rattle.std.specs.Prelude.{◌≡◌, Option, Some, None, if◌then◌else◌}
 use Rattle.cp_group_state.specs.Rows.{most}
-use Rattle.cp_group_state.specs.Locks.{Holder, LockRow, Taken, is_free}
+use Rattle.cp_group_state.specs.declared.rows.Holder.{Holder}
+use Rattle.cp_group_state.specs.declared.rows.LockRow.{LockRow}
+use Rattle.cp_group_state.specs.declared.outcome.Taken.{Taken}
+use Rattle.cp_group_state.specs.Locks.{is_free}
 use Rattle.cp_lock.specs.declared.error.LockError.{LockError}
 use Rattle.cp_lock.specs.declared.error.LockError.TheVariants as error
 

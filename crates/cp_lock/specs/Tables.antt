@@ -1,7 +1,7 @@
 -- Tables of locks.
 use Rattle.std.specs.Prelude.{ℕ, List, All, IsSome}
 use Rattle.cp_group_state.specs.Rows.{Named, find, name_cmp}
-use Rattle.cp_group_state.specs.Locks.{LockRow}
+use Rattle.cp_group_state.specs.declared.rows.LockRow.{LockRow}
 use Rattle.cp_group_state.specs.Invariants.{IsRising, LocksWell}
 
 -- rows that a table may have

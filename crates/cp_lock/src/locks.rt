@@ -2,7 +2,8 @@
 ghost use Rattle.std.specs.Prelude.{◌≡◌, ℕ, List, [], ◌∷◌, Some, All, IfErr, IfOk, IsSome, OnErr, OnOk};
 ghost use Rattle.std.specs.Option.{option_copied};
 ghost use Rattle.cp_group_state.specs.Rows.{find, name_cmp, put, without};
-ghost use Rattle.cp_group_state.specs.Locks.{Freed, acquired, freed_all, held_among, held_once, lock_at, released_by};
+ghost use Rattle.cp_group_state.specs.declared.outcome.Released.TheVariants.{Freed};
+ghost use Rattle.cp_group_state.specs.Locks.{acquired, freed_all, held_among, held_once, lock_at, released_by};
 ghost use Rattle.cp_group_state.specs.Invariants.{IsRising, LocksWell};
 ghost use Rattle.cp_lock.specs.Tables.{AreThere, IsTable};
 ghost use Rattle.cp_lock.specs.Outcomes.{IsLockError, owner_of};

@@ -2,6 +2,7 @@
 use Rattle.std.proofs.Common.{◌≡◌, ◌≤◌, ◌<◌, ◌+◌, ◌*◌, ◌^◌, ℕ, suc, List, [], ◌∷◌, length, Vec, refl, ap, arith}
 use Rattle.std.specs.Prelude.{Option, Some, None, Result, Ok, Err}
 use Rattle.std.specs.declared.alloc.Global.{Global}
+use Rattle.cp_base.specs.declared.limits.TheConstants.{LAST_NUMBER}
 use Rattle.cp_journal.specs.Found.{lists}
 use Rattle.cp_log_rules.proofs.Recoveries.{restart_bound}
 use Rattle.cp_journal.specs.Frames.{AreFrames, IsAtRest}
@@ -48,5 +49,5 @@ length_lists [] = refl
 length_lists (body ∷ bodies) = ap suc (length_lists bodies)
 
 -- as many starts as there are bodies at most
-pub restart_fits : (at : ℕ) (first s : DurableState) (bodies : List (Vec ℕ Global)) → first.restart ≡ 0 → recovered_from at first (lists bodies) ≡ Ok s → length bodies * 24 < 9223372036854775808 → s.restart < 2 ^ 62
+pub restart_fits : (at : ℕ) (first s : DurableState) (bodies : List (Vec ℕ Global)) → first.restart ≡ 0 → recovered_from at first (lists bodies) ≡ Ok s → length bodies * 24 < 9223372036854775808 → s.restart < LAST_NUMBER
 restart_fits at first s bodies none is small = omega (arith, restart_bound at first s (lists bodies) is, length_lists bodies)

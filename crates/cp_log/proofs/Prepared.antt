@@ -5,6 +5,7 @@ use Rattle.std.specs.declared.alloc.Global.{Global}
 use Rattle.std.specs.declared.collections.VecDeque.{VecDeque}
 use Rattle.std.specs.Option.{option_map}
 use Rattle.std.proofs.lemmas.Bool.Decides.{nat_tests}
+use Rattle.cp_base.specs.declared.limits.TheConstants.{LAST_NUMBER}
 use Rattle.cp_parts.specs.declared.config.Config.{Config}
 use Rattle.cp_parts.specs.declared.log_entry.LogEntry.{LogEntry}
 use Rattle.cp_parts.specs.declared.part.Part.TheVariants as part
@@ -62,15 +63,15 @@ above_base (Some row) p term at bytes is legal = above_row term at bytes row (su
 
 -- ---- bounds of the numbers of a part
 
-pub start_bound : (restart : ℕ) → part_grammar.Fits (part.Start restart) → restart ≤ 2 ^ 62
+pub start_bound : (restart : ℕ) → part_grammar.Fits (part.Start restart) → restart ≤ LAST_NUMBER
 unfolding part_grammar index
 start_bound restart fits = fits.1.0
 
-pub start2_bound : (restart : ℕ) → part_grammar.Fits (part.Start2 restart) → restart ≤ 2 ^ 62
+pub start2_bound : (restart : ℕ) → part_grammar.Fits (part.Start2 restart) → restart ≤ LAST_NUMBER
 unfolding part_grammar index
 start2_bound restart fits = fits.1.0.0
 
-pub snapshot_bound : (group : GroupId) (term vote at : ℕ) (bytes : List ℕ) → part_grammar.Fits (part.Snapshot group term vote at bytes) → at ≤ 2 ^ 62
+pub snapshot_bound : (group : GroupId) (term vote at : ℕ) (bytes : List ℕ) → part_grammar.Fits (part.Snapshot group term vote at bytes) → at ≤ LAST_NUMBER
 unfolding part_grammar index
 snapshot_bound group term vote at bytes fits = fits.1.0.1.1.1.0
 

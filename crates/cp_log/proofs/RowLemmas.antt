@@ -1,6 +1,7 @@
 -- What the changes of a row leave of its invariants.
 use Rattle.std.proofs.Common.{◌≡◌, ◌≤◌, ◌<◌, ◌+◌, ◌-◌, ◌^◌, ◌++◌, ℕ, zero, suc, List, [], ◌∷◌, length, take, drop, refl, sym, ◌∙◌, ap, arith, length-append, length-take, length-drop}
 use Rattle.std.specs.Prelude.{Bool, true, false, Some, None, nat_le, nat_lt, slice_get, slice_index_or, if◌then◌else◌}
+use Rattle.cp_base.specs.declared.limits.TheConstants.{LAST_NUMBER}
 use Rattle.cp_parts.specs.declared.config.Config.{Config}
 use Rattle.cp_parts.specs.declared.log_entry.LogEntry.{LogEntry}
 use Rattle.cp_log_rules.specs.Persistent.{is_term}
@@ -35,7 +36,7 @@ config_there base index count before d log configs from is counted some =
 
 -- ---- sizes
 
-pub entries_short : (base after : ℕ) (log entries now : List LogEntry) → base ≤ after → after ≤ base + length log → after + length entries ≤ 2 ^ 62 → now ≡ take (after - base) log ++ entries → base + length now ≤ 2 ^ 62
+pub entries_short : (base after : ℕ) (log entries now : List LogEntry) → base ≤ after → after ≤ base + length log → after + length entries ≤ LAST_NUMBER → now ≡ take (after - base) log ++ entries → base + length now ≤ LAST_NUMBER
 entries_short base after log entries now from to most is =
     let size : length now ≡ length (take (after - base) log) + length entries = ap length is ∙ length-append (take (after - base) log) entries in
     omega (arith, length-take (after - base) log)
@@ -53,7 +54,7 @@ term_within base index term log keeps above is found = go (nat_lt base index) (s
     go true found = omega (arith, some_within log (index - base - 1) term found)
     go false found = absurd cc
 
-pub suffix_short : (base index : ℕ) (keeps : Bool) (log now : List LogEntry) → base ≤ index → index ≤ 2 ^ 62 → base + length log ≤ 2 ^ 62 → (keeps ≡ true → index ≤ base + length log) → now ≡ (if keeps then drop (index - base) log else [])
-    → index + length now ≤ 2 ^ 62
+pub suffix_short : (base index : ℕ) (keeps : Bool) (log now : List LogEntry) → base ≤ index → index ≤ LAST_NUMBER → base + length log ≤ LAST_NUMBER → (keeps ≡ true → index ≤ base + length log) → now ≡ (if keeps then drop (index - base) log else [])
+    → index + length now ≤ LAST_NUMBER
 suffix_short base index false log now from most short to is = omega (arith, ap length is)
 suffix_short base index true log now from most short to is = omega (arith, ap length is, length-drop (index - base) log, to refl)

@@ -2,6 +2,7 @@
 use Rattle.std.proofs.Common.{◌≡◌, ◌≤◌, ◌<◌, ◌+◌, ◌^◌, inl, inr, ℕ, List, length, refl, sym, ◌∙◌, ap, subst, arith}
 use Rattle.std.specs.Prelude.{Bool, true, false, ◌⊎◌, ◌↔◌, Result, Ok, Err, IsTrue, IsErrOf, IfErr, OnOk, is_ok, if◌then◌else◌}
 use Rattle.std.proofs.lemmas.Bool.{cases_lt}
+use Rattle.cp_base.specs.declared.limits.TheConstants.{BODY_LIMIT, FILE_LIMIT, LAST_NUMBER}
 use Rattle.cp_grammar.specs.Grammar.{whole}
 use Rattle.cp_grammar.specs.Laws.{whole_again}
 use Rattle.cp_codec.specs.Exact.{IsByte}
@@ -93,7 +94,7 @@ pub settled : (applies written : Bool) (one other after before now : DurableStat
 settled applies written one other after before now is same first second = is ∙ rw (same, first, second) refl
 
 -- a part has a byte at least
-pub part_body : (p : Part) (body : List ℕ) → body ≡ part_grammar.spelling p → length (part_grammar.spelling p) ≤ 67108864 → IsBody body
+pub part_body : (p : Part) (body : List ℕ) → body ≡ part_grammar.spelling p → length (part_grammar.spelling p) ≤ BODY_LIMIT → IsBody body
 unfolding part_grammar
 part_body p body is most = record { some = omega (arith, ap length is); most = omega (arith, ap length is) }
 
@@ -125,7 +126,7 @@ state_size (part.Start2 restart) is = absurd cc
 
 -- ---- the start that opening writes
 
-pub start_fits : (restart : ℕ) → restart ≤ 2 ^ 62 → part_grammar.Fits (part.Start2 restart)
+pub start_fits : (restart : ℕ) → restart ≤ LAST_NUMBER → part_grammar.Fits (part.Start2 restart)
 unfolding part_grammar index
 start_fits restart le = ((omega arith, refl), ((le, refl), refl))
 
@@ -134,15 +135,15 @@ unfolding part_grammar index big_endian
 start_size restart = refl
 
 module _ {T : Type 0} where
-  not_full : (size : ℕ) (x : T) (result : Result T StoreError) → result ≡ Ok x → (1073741824 < size → IsErrOf result error.Full ⊎ IsErrOf result error.NoMemory) → size ≤ 1073741824
-  not_full size x result is full = elim (cases_lt 1073741824 size) [ inl lt ↦ none (full lt) | inr le ↦ le ]
+  not_full : (size : ℕ) (x : T) (result : Result T StoreError) → result ≡ Ok x → (FILE_LIMIT < size → IsErrOf result error.Full ⊎ IsErrOf result error.NoMemory) → size ≤ FILE_LIMIT
+  not_full size x result is full = elim (cases_lt FILE_LIMIT size) [ inl lt ↦ none (full lt) | inr le ↦ le ]
     where
-      none : IsErrOf result error.Full ⊎ IsErrOf result error.NoMemory → size ≤ 1073741824
+      none : IsErrOf result error.Full ⊎ IsErrOf result error.NoMemory → size ≤ FILE_LIMIT
       none (inl wrong) = absurd cc
       none (inr wrong) = absurd cc
 
   pub begun_bytes : (now before more : ℕ) (x : T) (result : Result T StoreError) → result ≡ Ok x → more ≡ 10 → (now ≡ (if is_ok result then before + (more + 5) else before)) ⊎ IsErrOf result error.DiskFault
-      → (1073741824 < before + (more + 5) → IsErrOf result error.Full ⊎ IsErrOf result error.NoMemory) → (now ≡ before + 15) × (now ≤ 1073741824)
+      → (FILE_LIMIT < before + (more + 5) → IsErrOf result error.Full ⊎ IsErrOf result error.NoMemory) → (now ≡ before + 15) × (now ≤ FILE_LIMIT)
   begun_bytes now before more x result is ten (inl bytes) full =
       let done : is_ok result ≡ true = rw is refl in
       let sum : now ≡ before + (more + 5) = bytes ∙ rw done refl in

@@ -2,6 +2,7 @@
 use Rattle.std.specs.Prelude.{◌≡◌, ◌≤◌, ℕ, Bool, true, false, Ok, Err, IfErr}
 use Rattle.std.specs.declared.result.Result.{Result}
 use Rattle.cp_base.specs.Faults.{Rose}
+use Rattle.cp_disk.specs.declared.disk.Disk.{Ghosts}
 use Rattle.cp_log_rules.specs.Durable.{DurableState}
 use Rattle.cp_log.specs.declared.error.StoreError.{StoreError}
 use Rattle.cp_log.specs.declared.error.StoreError.TheVariants as error
@@ -15,10 +16,10 @@ WriteCause before now (error.BadRecord place) = ⊥
 WriteCause before now error.NoMemory = Unit {0}
 
 -- no count of the disk falls, and a disk fault comes only where its count rose
-pub record Counts {T : Type 0} (before now starved_before starved_now : ℕ) (result : Result T StoreError) : Type 0 where
-  pub later : before ≤ now
-  pub starved_later : starved_before ≤ starved_now
-  pub failed : IfErr result (WriteCause before now)
+pub record Counts {D T : Type 0} (disks : Ghosts D) (old new : D) (result : Result T StoreError) : Type 0 where
+  pub later : disks.faults old ≤ disks.faults new
+  pub starved_later : disks.starved old ≤ disks.starved new
+  pub failed : IfErr result (WriteCause (disks.faults old) (disks.faults new))
 
 abbrev pub is_fault : {T : Type 0} → Result T StoreError → Bool
 is_fault (Ok x) = false

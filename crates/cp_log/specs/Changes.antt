@@ -4,6 +4,7 @@ use Rattle.std.specs.Ordering.{nat_cmp}
 use Rattle.std.specs.BTreeMap.{get, is_at}
 use Rattle.std.specs.Map.{keys_of, remove_entry}
 use Rattle.std.specs.Set.{remove_key}
+use Rattle.cp_base.specs.declared.limits.TheConstants.{LAST_NUMBER}
 use Rattle.cp_base.specs.declared.identifier.GroupId.{GroupId}
 use Rattle.cp_parts.specs.declared.part.Part.{Part}
 use Rattle.cp_parts.specs.declared.part.Part.TheVariants as part
@@ -35,10 +36,10 @@ cancelled (change.Ended group) s = record s { ended = remove_key (is_at (nat_cmp
 
 -- the change fits the store's memory, and there is room for it
 abbrev pub Fits : Change → Durable → Type 0
-Fits (change.Start restart format) s = restart ≤ 2 ^ 62
+Fits (change.Start restart format) s = restart ≤ LAST_NUMBER
 Fits (change.Ballot group term vote) s = IsSome (get nat_cmp s.rows group)
 Fits (change.Entries group term vote after entries configs) s = IsSomeAnd (get nat_cmp s.rows group) (FitsBehind after entries configs)
-Fits (change.Snapshot group term vote index bytes head) s = IsSomeAnd (get nat_cmp s.rows group) (λ row. row.base < index) × (index ≤ 2 ^ 62)
+Fits (change.Snapshot group term vote index bytes head) s = IsSomeAnd (get nat_cmp s.rows group) (λ row. row.base < index) × (index ≤ LAST_NUMBER)
 Fits (change.Begun group numbers) s = map (λ (g : GroupId). g.0) numbers.items ≡ remove_key (is_at (nat_cmp group)) (keys_of s.rows.entries)
 Fits (change.Ended group) s = Unit {0}
 

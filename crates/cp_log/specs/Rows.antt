@@ -2,6 +2,7 @@
 use Rattle.std.specs.Prelude.{◌≡◌, ◌≤◌, ◌+◌, ◌^◌, ℕ, List, length, map}
 use Rattle.std.specs.declared.alloc.Global.{Global}
 use Rattle.std.specs.declared.collections.VecDeque.{VecDeque}
+use Rattle.cp_base.specs.declared.limits.TheConstants.{LAST_NUMBER}
 use Rattle.cp_parts.specs.declared.config.Config.{Config}
 use Rattle.cp_parts.specs.declared.log_entry.LogEntry.{LogEntry}
 use Rattle.cp_log_rules.specs.Configurations.{configs_in}
@@ -28,7 +29,7 @@ rows_of rows = map (λ row. (row.0, state_of row.1)) rows
 pub record FitsBehind (after : ℕ) (entries : VecDeque LogEntry Global) (configs : VecDeque Config Global) (row : Row) : Type 0 where
   pub from : row.base ≤ after
   pub to : after ≤ row.base + length row.log.items
-  pub most : after + length entries.items ≤ 2 ^ 62
+  pub most : after + length entries.items ≤ LAST_NUMBER
   pub brought : configs.items ≡ configs_in after entries.items
   pub room : HasRoom (length entries.items) row.log
   pub config_room : HasRoom (length configs.items) row.configs

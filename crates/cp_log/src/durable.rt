@@ -5,6 +5,7 @@ ghost use Rattle.std.specs.Ordering.{nat_cmp};
 ghost use Rattle.std.specs.BTreeMap.{get, insert_entry, is_at};
 ghost use Rattle.std.specs.BTreeSet.{insert_key};
 ghost use Rattle.std.specs.Map.{keys_of, remove_entry};
+ghost use Rattle.cp_base.specs.declared.limits.TheConstants.{LAST_NUMBER};
 ghost use Rattle.cp_log_rules.specs.Persistent.{new_group};
 ghost use Rattle.cp_log_rules.specs.Durable.{group_at, has_ended};
 
@@ -29,7 +30,7 @@ pub(crate) struct Durable {
     pub ended: BTreeSet<u64>,
     /// The numbers of the rows, rising.
     pub numbers: Vec<GroupId>,
-    ghost counted: { restart ≤ 2 ^ 62 },
+    ghost counted: { restart ≤ LAST_NUMBER },
     ghost listed: { map (λ group. group.0) numbers.items ≡ keys_of rows.entries },
 }
 

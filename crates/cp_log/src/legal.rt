@@ -6,18 +6,15 @@ ghost use Rattle.cp_log_rules.specs.Durable.{group_at};
 
 use crate::durable::Durable;
 use cp_base::NoMemory;
-use cp_base::limits::LAST_NUMBER;
+use cp_base::limits::{LAST_NUMBER, OLDER_MOST_ENTRY};
 use cp_parts::{LogEntry, Part, head_of_snapshot};
 use std::alloc::Global;
 
-/// The most bytes of an entry in the first format; the second format has twice as many.
-const MOST_ENTRY: usize = 4096;
-
-/// Whether entries are short enough for a format.
+/// Whether entries are short enough for a format: the second takes twice as many bytes as the first.
 fn are_short(format: u8, entries: &[LogEntry]) -> bool
     ensures { result ≡ legal.are_short format entries.now }
 {
-    let most = MOST_ENTRY * format as usize;
+    let most = OLDER_MOST_ENTRY as usize * format as usize;
     entries.iter().all(|entry| entry.bytes.len() <= most)
 }
 

@@ -1,5 +1,6 @@
 //! Preparing what a part changes, so that nothing takes memory once the part is written.
 ghost use Rattle.std.specs.Prelude.{true, ◌≡◌, ◌≤◌, ◌+◌, ◌^◌, ◌++◌, ℕ, List, length, IfOk, IsOk, OnOk, OnErr, IsTrue};
+ghost use Rattle.cp_base.specs.declared.limits.TheConstants.{LAST_NUMBER};
 ghost use Rattle.cp_parts.specs.declared.config.Config.{Config as Configuration};
 ghost use Rattle.cp_parts.specs.Configs.{config_in};
 ghost use Rattle.cp_parts.specs.Parts.{part_grammar};
@@ -35,7 +36,7 @@ fn push_config(
 /// The configurations that entries behind an index bring.
 #[tactic(auto, unfolding(cp_log_rules::specs::Configurations::configs_in))]
 fn configs_of(alloc: Global, after: u64, entries: &[LogEntry]) -> Result<VecDeque<Config>, NoMemory>
-    requires { after + length entries.now ≤ 2 ^ 62 }
+    requires { after + length entries.now ≤ LAST_NUMBER }
     ensures { IfOk result (λ configs. configs.items ≡ configs_in after entries.now) }
 {
     let mut configs = VecDeque::new(alloc);
@@ -85,7 +86,7 @@ impl Durable {
         bytes: Items<u8>,
     ) -> Result<Change, NoMemory>
         requires legal { if_stands (may_snapshot term index bytes) (group_at (durable_of self.old) group) ≡ true }
-        requires most { index ≤ 2 ^ 62 }
+        requires most { index ≤ LAST_NUMBER }
         ensures ok { IfOk result (λ change. IsReady change self.new (durable_of self.old) (with_group group (with_snapshot term vote index bytes) (durable_of self.old))) }
         ensures err { OnErr result (durable_of self.new ≡ durable_of self.old) }
     {

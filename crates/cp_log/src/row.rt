@@ -2,6 +2,7 @@
 ghost use Rattle.std.specs.Prelude.{true, ◌≡◌, ◌≤◌, ◌<◌, ◌+◌, ◌^◌, ◌++◌, [], length, drop, Some, if◌then◌else◌, OnOk};
 ghost use Rattle.std.specs.Option.{option_copied};
 ghost use Rattle.std.specs.List.Sorted.{IsNonDecreasingBy};
+ghost use Rattle.cp_base.specs.declared.limits.TheConstants.{LAST_NUMBER};
 ghost use Rattle.cp_log_rules.specs.Persistent.{new_group, last, entry_at, term_at, is_term, with_ballot, with_entries, with_head};
 ghost use Rattle.cp_log_rules.specs.Configurations.{config_at, configs_in};
 ghost use Rattle.cp_log_rules.proofs.InForce.{count_within};
@@ -24,7 +25,7 @@ pub(crate) struct Row {
     pub snapshot: Items<u8>,
     pub log: VecDeque<LogEntry>,
     pub configs: VecDeque<Config>,
-    ghost short: { base + length log.items ≤ 2 ^ 62 },
+    ghost short: { base + length log.items ≤ LAST_NUMBER },
     ghost configs_are: { configs.items ≡ configs_in base log.items },
 }
 
@@ -184,7 +185,7 @@ impl Row {
     )
         requires from { self.old.base ≤ after }
         requires to { after ≤ self.old.base + length self.old.log.items }
-        requires most { after + length entries.items ≤ 2 ^ 62 }
+        requires most { after + length entries.items ≤ LAST_NUMBER }
         requires brought { configs.items ≡ configs_in after entries.items }
         requires room { HasRoom (length entries.items) self.old.log }
         requires config_room { HasRoom (length configs.items) self.old.configs }
@@ -211,7 +212,7 @@ impl Row {
         head: SnapshotHead,
     )
         requires above { self.old.base < index }
-        requires most { index ≤ 2 ^ 62 }
+        requires most { index ≤ LAST_NUMBER }
         ensures { state_of self.new ≡ with_head term vote index bytes (Some head) (state_of self.old) }
     {
         let keeps = self.has_term(index, head.term);

@@ -6,6 +6,7 @@ ghost use Rattle.std.specs.BTreeMap.{get, insert_entry, is_at};
 ghost use Rattle.std.specs.BTreeSet.{insert_key};
 ghost use Rattle.std.specs.Map.{keys_of, lookup, remove_entry};
 ghost use Rattle.std.specs.Set.{remove_key};
+ghost use Rattle.cp_base.specs.declared.limits.TheConstants.{LAST_NUMBER};
 ghost use Rattle.cp_log_rules.specs.Persistent.{new_group, with_ballot, with_entries, with_head};
 ghost use Rattle.cp_log_rules.specs.Durable.{changed_at};
 ghost use Rattle.cp_log.specs.Room.{HasRoom};
@@ -78,7 +79,7 @@ pub(crate) fn put_snapshot(
     head: SnapshotHead,
 )
     requires row { IsSomeAnd (get nat_cmp rows.old group) (λ row. row.base < index) }
-    requires most { index ≤ 2 ^ 62 }
+    requires most { index ≤ LAST_NUMBER }
     ensures rows { rows_of rows.new.entries ≡ changed_at group (with_head term vote index bytes (Some head)) (rows_of rows.old.entries) }
     ensures keys { keys_of rows.new.entries ≡ keys_of rows.old.entries }
 {

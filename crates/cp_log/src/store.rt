@@ -1,7 +1,9 @@
 //! The store.
 ghost use Rattle.std.specs.Prelude.{Bool, true, false, [], ◌≡◌, ◌≤◌, ◌<◌, ◌+◌, ◌^◌, ◌⊎◌, ℕ, List, length, Some, None, Ok, Err, IfOk, IfErr, IsOk, is_ok, MatchResult, OnOk, OnErr, IsErrOf, IsTrue, if◌then◌else◌};
+ghost use Rattle.cp_base.specs.declared.limits.TheConstants.{BODY_LIMIT, FILE_LIMIT, LAST_NUMBER};
 ghost use Rattle.cp_base.specs.Faults.{Rose};
 ghost use Rattle.cp_disk.specs.Images.{Only, NoMore, Elapses};
+ghost use Rattle.cp_disk.specs.Tallies.{Tallies};
 ghost use Rattle.cp_journal.specs.Journals as journals;
 ghost use Rattle.cp_journal.specs.Moments.{LeavesOnly};
 ghost use Rattle.cp_journal.specs.Records.{records_of};
@@ -116,7 +118,7 @@ impl<D: Disk> Store<D> {
         requires whole { is_spent self.old ≡ false }
         requires legal { IsTrue (is_legal part.now (held_by self.old)) }
         requires fits { part_grammar.Fits part.now }
-        requires size { length (part_grammar.spelling part.now) ≤ 67108864 }
+        requires size { length (part_grammar.spelling part.now) ≤ BODY_LIMIT }
         ensures ok { OnOk result (held_by self.new ≡ with_part part.now (held_by self.old)) }
         ensures err { OnErr result (held_by self.new ≡ held_by self.old) }
         ensures first { first_of self.new ≡ first_of self.old }
@@ -132,10 +134,10 @@ impl<D: Disk> Store<D> {
         ensures frugal { is_state part.now ≡ true → IsErrOf result error.NoMemory → Rose (D.starved (disk_of self.old)) (D.starved (disk_of self.new)) }
 
         // It is full exactly where the file would pass 2^30 bytes, unless memory runs out before.
-        ensures full { IsErrOf result error.Full → 1073741824 < bytes_of self.old + (length (part_grammar.spelling part.now) + 5) }
-        ensures only_full { 1073741824 < bytes_of self.old + (length (part_grammar.spelling part.now) + 5) → IsErrOf result error.Full ⊎ IsErrOf result error.NoMemory }
+        ensures full { IsErrOf result error.Full → FILE_LIMIT < bytes_of self.old + (length (part_grammar.spelling part.now) + 5) }
+        ensures only_full { FILE_LIMIT < bytes_of self.old + (length (part_grammar.spelling part.now) + 5) → IsErrOf result error.Full ⊎ IsErrOf result error.NoMemory }
         ensures bytes { bytes_of self.new ≡ (if is_ok result then bytes_of self.old + (length (part_grammar.spelling part.now) + 5) else bytes_of self.old) ⊎ IsErrOf result error.DiskFault }
-        ensures cause { Counts (D.faults (disk_of self.old)) (D.faults (disk_of self.new)) (D.starved (disk_of self.old)) (D.starved (disk_of self.new)) result }
+        ensures cause { Counts D.Disk (disk_of self.old) (disk_of self.new) result }
         ensures orders { D.orders (disk_of self.new) ≡ D.orders (disk_of self.old) }
     {
         let body = match Body::of(alloc, part) {
@@ -173,12 +175,12 @@ impl<D: Disk> Store<D> {
         ensures durable { D.Told → IfOk result (λ store. Only (D.seen (disk_of store)) (D.may_leave (disk_of store))) }
 
         // It is full exactly where the file would pass 2^30 bytes with the start.
-        ensures full { (bodies : List (List ℕ)) → D.Told → records_of (D.seen disk) ≡ Ok bodies → IfErr result (λ refused. refused.1 ≡ error.Full → 1073741824 < 16 + sizes bodies) }
-        ensures bytes { (bodies : List (List ℕ)) → D.Told → records_of (D.seen disk) ≡ Ok bodies → IfOk result (λ store. (bytes_of store ≡ 16 + sizes bodies) × (bytes_of store ≤ 1073741824)) }
+        ensures full { (bodies : List (List ℕ)) → D.Told → records_of (D.seen disk) ≡ Ok bodies → IfErr result (λ refused. refused.1 ≡ error.Full → FILE_LIMIT < 16 + sizes bodies) }
+        ensures bytes { (bodies : List (List ℕ)) → D.Told → records_of (D.seen disk) ≡ Ok bodies → IfOk result (λ store. (bytes_of store ≡ 16 + sizes bodies) × (bytes_of store ≤ FILE_LIMIT)) }
         ensures cause { IfErr result (λ refused. OpenCause (D.faults disk) (D.faults refused.0) D.Told (file_state (first_state managed size) (D.seen disk)) refused.1) }
         ensures counts { MatchResult result
-            (λ store. (D.faults disk ≤ D.faults (disk_of store)) × ((D.starved disk ≤ D.starved (disk_of store)) × (D.orders (disk_of store) ≡ D.orders disk)))
-            (λ refused. (D.faults disk ≤ D.faults refused.0) × ((D.starved disk ≤ D.starved refused.0) × (D.orders refused.0 ≡ D.orders disk))) }
+            (λ store. Tallies D.Disk disk (disk_of store))
+            (λ refused. Tallies D.Disk disk refused.0) }
 
         // Where every image of the disk stands for some state, each image at any moment of the call does too, and the file is not
         // bad. So no file is bad that stores alone wrote on an empty disk.
@@ -208,12 +210,12 @@ impl<D: Disk> Store<D> {
         ensures durable { D.Told → IfOk result (λ store. Only (D.seen (disk_of store)) (D.may_leave (disk_of store))) }
 
         // It is full exactly where the file would pass 2^30 bytes with the start.
-        ensures full { (bodies : List (List ℕ)) → D.Told → records_of (D.seen disk) ≡ Ok bodies → IfErr result (λ refused. refused.1 ≡ error.Full → 1073741824 < 16 + sizes bodies) }
-        ensures bytes { (bodies : List (List ℕ)) → D.Told → records_of (D.seen disk) ≡ Ok bodies → IfOk result (λ store. (bytes_of store ≡ 16 + sizes bodies) × (bytes_of store ≤ 1073741824)) }
+        ensures full { (bodies : List (List ℕ)) → D.Told → records_of (D.seen disk) ≡ Ok bodies → IfErr result (λ refused. refused.1 ≡ error.Full → FILE_LIMIT < 16 + sizes bodies) }
+        ensures bytes { (bodies : List (List ℕ)) → D.Told → records_of (D.seen disk) ≡ Ok bodies → IfOk result (λ store. (bytes_of store ≡ 16 + sizes bodies) × (bytes_of store ≤ FILE_LIMIT)) }
         ensures cause { IfErr result (λ refused. OpenCause (D.faults disk) (D.faults refused.0) D.Told (file_state (first_state managed size) (D.seen disk)) refused.1) }
         ensures counts { MatchResult result
-            (λ store. (D.faults disk ≤ D.faults (disk_of store)) × ((D.starved disk ≤ D.starved (disk_of store)) × (D.orders (disk_of store) ≡ D.orders disk)))
-            (λ refused. (D.faults disk ≤ D.faults refused.0) × ((D.starved disk ≤ D.starved refused.0) × (D.orders refused.0 ≡ D.orders disk))) }
+            (λ store. Tallies D.Disk disk (disk_of store))
+            (λ refused. Tallies D.Disk disk refused.0) }
     {
         let (journal, bodies) = match Journal::open(alloc, disk) {
             Ok(opened) => opened,
@@ -235,18 +237,18 @@ impl<D: Disk> Store<D> {
     ) -> Result<Store<D>, (D, StoreError)>
         requires whole { journals.is_spent journal ≡ false }
         requires fold { D.Told → file_state (first_state managed size) (D.seen (journals.disk_of journal)) ≡ Ok (durable_of state) }
-        requires room { state.restart < 2 ^ 62 }
+        requires room { state.restart < LAST_NUMBER }
         ensures opened { IfOk result (λ store. (is_spent store ≡ false) × ((first_of store ≡ first_state managed size) × (held_by store ≡ started (durable_of state)))) }
         ensures any_moment { D.Told → MatchResult result
             (λ store. LeavesOnly D.moment D.left_since (journals.disk_of journal) (disk_of store) (StandsForEither (first_state managed size) (durable_of state) (started (durable_of state))))
             (λ refused. LeavesOnly D.moment D.left_since (journals.disk_of journal) refused.0 (StandsForEither (first_state managed size) (durable_of state) (started (durable_of state)))) }
         ensures durable { D.Told → IfOk result (λ store. Only (D.seen (disk_of store)) (D.may_leave (disk_of store))) }
-        ensures full { IfErr result (λ refused. refused.1 ≡ error.Full → 1073741824 < journals.end_of journal + 15) }
-        ensures bytes { IfOk result (λ store. (bytes_of store ≡ journals.end_of journal + 15) × (bytes_of store ≤ 1073741824)) }
+        ensures full { IfErr result (λ refused. refused.1 ≡ error.Full → FILE_LIMIT < journals.end_of journal + 15) }
+        ensures bytes { IfOk result (λ store. (bytes_of store ≡ journals.end_of journal + 15) × (bytes_of store ≤ FILE_LIMIT)) }
         ensures cause { IfErr result (λ refused. WriteCause (D.faults (journals.disk_of journal)) (D.faults refused.0) refused.1) }
         ensures counts { MatchResult result
-            (λ store. (D.faults (journals.disk_of journal) ≤ D.faults (disk_of store)) × ((D.starved (journals.disk_of journal) ≤ D.starved (disk_of store)) × (D.orders (disk_of store) ≡ D.orders (journals.disk_of journal))))
-            (λ refused. (D.faults (journals.disk_of journal) ≤ D.faults refused.0) × ((D.starved (journals.disk_of journal) ≤ D.starved refused.0) × (D.orders refused.0 ≡ D.orders (journals.disk_of journal)))) }
+            (λ store. Tallies D.Disk (journals.disk_of journal) (disk_of store))
+            (λ refused. Tallies D.Disk (journals.disk_of journal) refused.0) }
     {
         let part = Part::Start2(state.restart + 1);
         let mut store = Store {
@@ -289,13 +291,15 @@ impl<D: CrashDisk> Store<D> {
 
     /// Hands the number to the disk.
     pub fn stop_after(&mut self, calls: u64)
-        requires { D.Disk.orders (disk_of self.old) < 2 ^ 62 }
+        requires { D.Disk.orders (disk_of self.old) < LAST_NUMBER }
         ensures seen { D.Disk.Told → D.Disk.seen (disk_of self.new) ≡ D.Disk.seen (disk_of self.old) }
-        ensures crash { D.Disk.Told → NoMore (D.Disk.may_leave (disk_of self.old)) (D.Disk.may_leave (disk_of self.new)) }
+        ensures crash { D.Disk.Told → NoMore (D.Disk.may_leave (disk_of self.old)) (D.Disk.may_leave (disk_of self.new))
+            × NoMore (D.Disk.may_leave (disk_of self.new)) (D.Disk.may_leave (disk_of self.old)) }
         ensures time { D.Disk.Told → Elapses (D.Disk.moment (disk_of self.old)) (D.Disk.moment (disk_of self.new)) (D.Disk.left_since (disk_of self.old)) (D.Disk.left_since (disk_of self.new)) (D.Disk.may_leave (disk_of self.new)) }
         ensures orders { D.Disk.orders (disk_of self.new) ≡ D.Disk.orders (disk_of self.old) + 1 }
         ensures counts { (D.Disk.faults (disk_of self.new) ≡ D.Disk.faults (disk_of self.old)) × (D.Disk.starved (disk_of self.new) ≡ D.Disk.starved (disk_of self.old)) }
         ensures armed { D.is_struck (disk_of self.new) ≡ false }
+        ensures stop { D.stop (disk_of self.new) ≡ Some calls }
         ensures others { (held_by self.new ≡ held_by self.old) × ((first_of self.new ≡ first_of self.old) × ((is_spent self.new ≡ is_spent self.old) × (bytes_of self.new ≡ bytes_of self.old))) }
     {
         self.journal.stop_after(calls);

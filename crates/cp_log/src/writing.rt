@@ -1,5 +1,6 @@
 //! Writing the record of one part.
 ghost use Rattle.std.specs.Prelude.{true, false, ◌≡◌, ◌≤◌, ◌<◌, ◌+◌, ◌↔◌, length, IfOk, IsOk, OnOk, IsErrOf};
+ghost use Rattle.cp_base.specs.declared.limits.TheConstants.{FILE_LIMIT};
 ghost use Rattle.cp_base.specs.Faults.{Rose};
 ghost use Rattle.cp_disk.specs.Images.{Only};
 ghost use Rattle.cp_journal.specs.Moments.{LeavesOnly};
@@ -70,9 +71,9 @@ pub(crate) fn append<D: Disk>(
     ensures starved { IsErrOf result error.NoMemory → (is_spent journal.new ≡ false) × (end_of journal.new ≡ end_of journal.old) }
     ensures kept { D.Told → IsErrOf result error.NoMemory → records_of (D.seen (disk_of journal.new)) ≡ records_of (D.seen (disk_of journal.old)) }
     ensures frugal { length body.now ≤ 64 → IsErrOf result error.NoMemory → Rose (D.starved (disk_of journal.old)) (D.starved (disk_of journal.new)) }
-    ensures full { IsErrOf result error.Full ↔ (1073741824 < end_of journal.old + (length body.now + 5)) }
+    ensures full { IsErrOf result error.Full ↔ (FILE_LIMIT < end_of journal.old + (length body.now + 5)) }
     ensures full_kept { IsErrOf result error.Full → (disk_of journal.new ≡ disk_of journal.old) × ((is_spent journal.new ≡ false) × (end_of journal.new ≡ end_of journal.old)) }
-    ensures cause { Counts (D.faults (disk_of journal.old)) (D.faults (disk_of journal.new)) (D.starved (disk_of journal.old)) (D.starved (disk_of journal.new)) result }
+    ensures cause { Counts D.Disk (disk_of journal.old) (disk_of journal.new) result }
     ensures orders { D.orders (disk_of journal.new) ≡ D.orders (disk_of journal.old) }
 {
     match journal.append(alloc, body) {

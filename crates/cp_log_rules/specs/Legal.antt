@@ -1,6 +1,7 @@
 -- Which part may follow.
 use Rattle.std.specs.Prelude.{ℕ, ◌+◌, ◌*◌, ◌^◌, Bool, false, not, List, length, Option, Some, None, is_some, nat_le, nat_lt, ◌==◌, ◌&&◌}
 use Rattle.std.specs.List.{list_all}
+use Rattle.cp_base.specs.declared.limits.TheConstants.{LAST_NUMBER, OLDER_MOST_ENTRY}
 use Rattle.cp_parts.specs.declared.log_entry.LogEntry.{LogEntry}
 use Rattle.cp_parts.specs.declared.part.Part.{Part}
 use Rattle.cp_parts.specs.declared.part.Part.TheVariants as part
@@ -10,7 +11,7 @@ use Rattle.cp_log_rules.specs.Durable.{DurableState, group_at, has_group, has_en
 
 -- the most bytes of an entry: 4,096 in the first format, 8,192 in the second
 abbrev pub most_entry : ℕ → ℕ
-most_entry format = 4096 * format
+most_entry format = OLDER_MOST_ENTRY * format
 
 abbrev pub are_short : ℕ → List LogEntry → Bool
 are_short format entries = list_all (λ e. nat_le (length e.bytes) (most_entry format)) entries
@@ -23,7 +24,7 @@ may_vote term s = nat_le s.term term
 -- entries stand behind an index from the base to the last, and the last one has an index of at most 2^62
 abbrev pub may_append : ℕ → ℕ → List LogEntry → PersistentState → Bool
 may_append term after entries s =
-    nat_le s.term term && (nat_le s.base after && (nat_le after (last s) && nat_le (after + length entries) (2 ^ 62)))
+    nat_le s.term term && (nat_le s.base after && (nat_le after (last s) && nat_le (after + length entries) LAST_NUMBER))
 
 -- a snapshot's index is above the base, and its bytes begin with a term and a configuration
 abbrev pub may_snapshot : ℕ → ℕ → List ℕ → PersistentState → Bool

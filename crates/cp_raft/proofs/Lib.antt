@@ -4,6 +4,7 @@ pub mod Decisions
 pub mod Stepping
 pub mod Elections
 pub mod Heads
+pub mod Joining
 pub mod Beats
 pub mod Others
 pub mod Downs

@@ -4,6 +4,7 @@ pub mod Outs
 pub mod Offices
 pub mod Downs
 pub mod Rafts
+pub mod Results
 pub mod Taking
 pub mod Settling
 pub mod Deciding

@@ -39,8 +39,12 @@ fn rule<G: Group>(
     requires kind { IsSome (event_of event.now) }
     requires may { ForSome (event_of event.now) (λ e. MayStep seat.me (G.stored stored.now) state.old e) }
     requires names { ForSome (event_of event.now) (λ e. NamesMember e) }
-    ensures did { IfSome (event_of event.now) (λ e. IfOk result (λ did. Does seat (steps.rule seat.me (G.stored stored.now) state.old e) did state.new out.old.items out.new.items)) }
-    ensures frugal { (e : Event) → event_of event.now ≡ Some e → is_voting e ≡ true → takes_office state.old (steps.rule seat.me (G.stored stored.now) state.old e) ≡ false → 8 ≤ spare out.old → IsOk result }
+    ensures did { IfSome (event_of event.now) (λ e. IfOk result (λ did. Does seat
+        (steps.rule seat.me (G.stored stored.now) state.old e)
+        did state.new out.old.items out.new.items)) }
+    ensures frugal { (e : Event) → event_of event.now ≡ Some e → is_voting e ≡ true
+        → takes_office state.old (steps.rule seat.me (G.stored stored.now) state.old e) ≡ false
+        → 8 ≤ spare out.old → IsOk result }
 {
     match event {
         RaftEvent::Tick {
@@ -85,7 +89,8 @@ fn settle<G: Group>(
     requires { last (G.stored stored.now) ≤ most_index }
     ensures settles { OnOk result (Settles seat.me (members_after (G.stored stored.now) did.now.part) state.old state.new out.new) }
     ensures messages { out.new.messages.items ≡ out.old.messages.items }
-    ensures frugal { (is_leader state.old.role ≡ true → (has_entries did.now.part ≡ false) × NoneReady seat.me (G.stored stored.now) state.old) → IsOk result }
+    ensures frugal { (is_leader state.old.role ≡ true → (has_entries did.now.part ≡ false)
+        × NoneReady seat.me (G.stored stored.now) state.old) → IsOk result }
 {
     if is_leader(state.role()) {
         out.looks = take_ready(alloc, stored, seat, &did.part, state)?;
@@ -112,8 +117,12 @@ pub fn decide<G: Group>(
     requires names { ForSome (event_of event.now) (λ e. NamesMember e) }
     requires reads { is_leader state.old.role ≡ false → state.old.reads.looks ≡ [] }
     ensures reads { OnOk result (is_leader state.new.role ≡ false → state.new.reads.looks ≡ []) }
-    ensures did { IfSome (event_of event.now) (λ e. IfOk result (λ did. Decides seat (steps.step seat.me (G.stored stored.now) state.old e) did state.new out.old out.new)) }
-    ensures frugal { (e : Event) → event_of event.now ≡ Some e → is_voting e ≡ true → takes_office state.old (steps.step seat.me (G.stored stored.now) state.old e) ≡ false → NoneReady seat.me (G.stored stored.now) state.old → 8 ≤ spare out.old.messages → IsOk result }
+    ensures did { IfSome (event_of event.now) (λ e. IfOk result (λ did. Decides seat
+        (steps.step seat.me (G.stored stored.now) state.old e)
+        did state.new out.old out.new)) }
+    ensures frugal { (e : Event) → event_of event.now ≡ Some e → is_voting e ≡ true
+        → takes_office state.old (steps.step seat.me (G.stored stored.now) state.old e) ≡ false
+        → NoneReady seat.me (G.stored stored.now) state.old → 8 ≤ spare out.old.messages → IsOk result }
 {
     let did = rule(alloc, stored, seat, event, state, &mut out.messages)?;
     settle(alloc, stored, seat, &did, state, out)?;

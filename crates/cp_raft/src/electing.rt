@@ -31,7 +31,9 @@ fn asks<G: Group>(
     out: &mut Vec<Message>,
 ) -> Result<Did, NoMemory>
     requires term { (G.stored stored.now).term < most_index }
-    ensures did { IfOk result (λ did. Does seat (prevotes.stands seat.me (G.stored stored.now) state.old) did state.new out.old.items out.new.items) }
+    ensures did { IfOk result (λ did. Does seat
+        (prevotes.stands seat.me (G.stored stored.now) state.old)
+        did state.new out.old.items out.new.items) }
 {
     state.stand();
     let ask = Ask::PreVote(stored.term() + 1, log_end(stored));
@@ -52,7 +54,9 @@ fn stands<G: Group>(
     requires leads { decided ≡ stand.Leads → ((G.stored stored.now).term < most_index) × (last (G.stored stored.now) < most_index) }
     requires above_base { (G.stored stored.now).base ≤ state.old.commit }
     requires within { state.old.commit ≤ last (G.stored stored.now) }
-    ensures { IfOk result (λ did. Does seat (stood seat.me (G.stored stored.now) state.old decided) did state.new out.old.items out.new.items) }
+    ensures { IfOk result (λ did. Does seat
+        (stood seat.me (G.stored stored.now) state.old decided)
+        did state.new out.old.items out.new.items) }
 {
     match decided {
         Stand::Waits => Ok(done(None)),
@@ -75,7 +79,9 @@ pub fn times_out<G: Group>(
 ) -> Result<Did, NoMemory>
     requires above_base { (G.stored stored.now).base ≤ state.old.commit }
     requires within { state.old.commit ≤ last (G.stored stored.now) }
-    ensures { IfOk result (λ did. Does seat (prevotes.times_out seat.me (G.stored stored.now) state.old may_write) did state.new out.old.items out.new.items) }
+    ensures { IfOk result (λ did. Does seat
+        (prevotes.times_out seat.me (G.stored stored.now) state.old may_write)
+        did state.new out.old.items out.new.items) }
 {
     let decided = standing(
         seat.me,
@@ -96,7 +102,9 @@ fn becomes_candidate<G: Group>(
     out: &mut Vec<Message>,
 ) -> Result<Did, NoMemory>
     requires term { (G.stored stored.now).term < most_index }
-    ensures did { IfOk result (λ did. Does seat (prevotes.becomes_candidate seat.me (G.stored stored.now) state.old) did state.new out.old.items out.new.items) }
+    ensures did { IfOk result (λ did. Does seat
+        (prevotes.becomes_candidate seat.me (G.stored stored.now) state.old)
+        did state.new out.old.items out.new.items) }
     ensures frugal { length (others seat.me (members (G.stored stored.now))) ≤ spare out.old → IsOk result }
 {
     state.campaign();
@@ -113,7 +121,9 @@ fn counts_prevote<G: Group>(
     out: &mut Vec<Message>,
 ) -> Result<Did, NoMemory>
     requires term { (G.stored stored.now).term < most_index }
-    ensures did { IfOk result (λ did. Does seat (prevotes.counts_prevote seat.me (G.stored stored.now) state.old) did state.new out.old.items out.new.items) }
+    ensures did { IfOk result (λ did. Does seat
+        (prevotes.counts_prevote seat.me (G.stored stored.now) state.old)
+        did state.new out.old.items out.new.items) }
     ensures frugal { length (others seat.me (members (G.stored stored.now))) ≤ spare out.old → IsOk result }
 {
     if has_quorum(seat.me, members(stored), state.votes()) {
@@ -135,7 +145,9 @@ fn takes_prevote_reply<G: Group>(
 ) -> Result<Did, NoMemory>
     requires from { from < 10 }
     requires term { replied ≡ replies.Counted → (G.stored stored.now).term < most_index }
-    ensures did { IfOk result (λ did. Does seat (after_prevote_reply seat.me (G.stored stored.now) state.old from term replied) did state.new out.old.items out.new.items) }
+    ensures did { IfOk result (λ did. Does seat
+        (after_prevote_reply seat.me (G.stored stored.now) state.old from term replied)
+        did state.new out.old.items out.new.items) }
     ensures frugal { length (others seat.me (members (G.stored stored.now))) ≤ spare out.old → IsOk result }
 {
     match replied {
@@ -158,7 +170,9 @@ pub fn on_prevote_reply<G: Group>(
     out: &mut Vec<Message>,
 ) -> Result<Did, NoMemory>
     requires may { MayStep seat.me (G.stored stored.now) state.old (local.Got from (local.PreVoteReply reply.now.term reply.now.granted)) }
-    ensures did { IfOk result (λ did. Does seat (prevotes.on_prevote_reply seat.me (G.stored stored.now) state.old from reply.now.term reply.now.granted) did state.new out.old.items out.new.items) }
+    ensures did { IfOk result (λ did. Does seat
+        (prevotes.on_prevote_reply seat.me (G.stored stored.now) state.old from reply.now.term reply.now.granted)
+        did state.new out.old.items out.new.items) }
     ensures frugal { 8 ≤ spare out.old → IsOk result }
 {
     let replied = pre_vote_replied(
@@ -183,7 +197,9 @@ fn counts_vote<G: Group>(
     requires room { last (G.stored stored.now) < most_index }
     requires above_base { (G.stored stored.now).base ≤ state.old.commit }
     requires within { state.old.commit ≤ last (G.stored stored.now) }
-    ensures did { IfOk result (λ did. Does seat (votes.counts_vote seat.me (G.stored stored.now) state.old) did state.new out.old.items out.new.items) }
+    ensures did { IfOk result (λ did. Does seat
+        (votes.counts_vote seat.me (G.stored stored.now) state.old)
+        did state.new out.old.items out.new.items) }
     ensures frugal { (votes.counts_vote seat.me (G.stored stored.now) state.old).leads ≡ false → IsOk result }
 {
     if has_quorum(seat.me, members(stored), state.votes()) {
@@ -209,8 +225,11 @@ fn takes_vote_reply<G: Group>(
     requires stands { replied ≡ replies.Counted → state.old.role ≡ role.Candidate }
     requires above_base { (G.stored stored.now).base ≤ state.old.commit }
     requires within { state.old.commit ≤ last (G.stored stored.now) }
-    ensures did { IfOk result (λ did. Does seat (after_vote_reply seat.me (G.stored stored.now) state.old from term replied) did state.new out.old.items out.new.items) }
-    ensures frugal { takes_office state.old (after_vote_reply seat.me (G.stored stored.now) state.old from term replied) ≡ false → IsOk result }
+    ensures did { IfOk result (λ did. Does seat
+        (after_vote_reply seat.me (G.stored stored.now) state.old from term replied)
+        did state.new out.old.items out.new.items) }
+    ensures frugal { takes_office state.old (after_vote_reply seat.me
+        (G.stored stored.now) state.old from term replied) ≡ false → IsOk result }
 {
     match replied {
         VoteReplied::Adopted => Ok(adopts(seat.group, term, state)),
@@ -233,8 +252,11 @@ pub fn on_vote_reply<G: Group>(
     out: &mut Vec<Message>,
 ) -> Result<Did, NoMemory>
     requires may { MayStep seat.me (G.stored stored.now) state.old (local.Got from (local.VoteReply reply.now.term reply.now.granted)) }
-    ensures did { IfOk result (λ did. Does seat (votes.on_vote_reply seat.me (G.stored stored.now) state.old from reply.now.term reply.now.granted) did state.new out.old.items out.new.items) }
-    ensures frugal { takes_office state.old (votes.on_vote_reply seat.me (G.stored stored.now) state.old from reply.now.term reply.now.granted) ≡ false → IsOk result }
+    ensures did { IfOk result (λ did. Does seat
+        (votes.on_vote_reply seat.me (G.stored stored.now) state.old from reply.now.term reply.now.granted)
+        did state.new out.old.items out.new.items) }
+    ensures frugal { takes_office state.old (votes.on_vote_reply seat.me
+        (G.stored stored.now) state.old from reply.now.term reply.now.granted) ≡ false → IsOk result }
 {
     let replied = vote_replied(
         state.role(),

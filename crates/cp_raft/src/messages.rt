@@ -29,9 +29,14 @@ pub fn on_message<G: Group>(
     out: &mut Vec<Message>,
 ) -> Result<Did, NoMemory>
     requires kind { IsSome (body_in message.now.body) }
-    requires may { ForSome (body_in message.now.body) (λ body. MayStep seat.me (G.stored stored.now) state.old (local.Got message.now.from body)) }
-    ensures did { IfSome (body_in message.now.body) (λ body. IfOk result (λ did. Does seat (steps.on_message seat.me (G.stored stored.now) state.old message.now.from body) did state.new out.old.items out.new.items)) }
-    ensures frugal { (body : local.Body) → body_in message.now.body ≡ Some body → is_on_vote body ≡ true → takes_office state.old (steps.on_message seat.me (G.stored stored.now) state.old message.now.from body) ≡ false → 8 ≤ spare out.old → IsOk result }
+    requires may { ForSome (body_in message.now.body) (λ body. MayStep seat.me (G.stored stored.now) state.old
+        (local.Got message.now.from body)) }
+    ensures did { IfSome (body_in message.now.body) (λ body. IfOk result (λ did. Does seat
+        (steps.on_message seat.me (G.stored stored.now) state.old message.now.from body)
+        did state.new out.old.items out.new.items)) }
+    ensures frugal { (body : local.Body) → body_in message.now.body ≡ Some body → is_on_vote body ≡ true
+        → takes_office state.old (steps.on_message seat.me
+        (G.stored stored.now) state.old message.now.from body) ≡ false → 8 ≤ spare out.old → IsOk result }
 {
     let from = message.from;
     match &message.body {

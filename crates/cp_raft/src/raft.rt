@@ -74,16 +74,22 @@ fn write<D: Disk>(alloc: Global, store: &mut Store<D>, part: &Option<Part>) -> R
     ensures err { OnErr result (held_by store.new ≡ held_by store.old) }
     ensures first { first_of store.new ≡ first_of store.old }
     ensures none { part.now ≡ None → store.new ≡ store.old }
-    ensures any_moment { IfSome part.now (λ x. D.Told → LeavesOnly D.moment D.left_since (disk_of store.old) (disk_of store.new) (StandsForEither (first_of store.old) (held_by store.old) (with_part x (held_by store.old)))) }
-    ensures sound { IfSome part.now (λ x. D.Told → LeavesOnly D.moment D.left_since (disk_of store.old) (disk_of store.new) (IsSound (first_of store.old))) }
-    ensures durable { IfSome part.now (λ x. D.Told → is_spent store.new ≡ false → Only (D.seen (disk_of store.new)) (D.may_leave (disk_of store.new))) }
+    ensures any_moment { IfSome part.now (λ x. D.Told
+        → LeavesOnly D.moment D.left_since (disk_of store.old) (disk_of store.new)
+        (StandsForEither (first_of store.old) (held_by store.old) (with_part x (held_by store.old)))) }
+    ensures sound { IfSome part.now (λ x. D.Told
+        → LeavesOnly D.moment D.left_since (disk_of store.old) (disk_of store.new) (IsSound (first_of store.old))) }
+    ensures durable { IfSome part.now (λ x. D.Told → is_spent store.new ≡ false
+        → Only (D.seen (disk_of store.new)) (D.may_leave (disk_of store.new))) }
     ensures cause { IfErr result (StepCause (D.faults (disk_of store.old)) (D.faults (disk_of store.new))) }
-    ensures later { (D.faults (disk_of store.old) ≤ D.faults (disk_of store.new)) × (D.starved (disk_of store.old) ≤ D.starved (disk_of store.new)) }
+    ensures later { (D.faults (disk_of store.old) ≤ D.faults (disk_of store.new))
+        × (D.starved (disk_of store.old) ≤ D.starved (disk_of store.new)) }
     ensures orders { D.orders (disk_of store.new) ≡ D.orders (disk_of store.old) }
     ensures spent { is_spent store.new ≡ is_disk_fault result }
     ensures full { IsErrOf result down.JournalFull → PassesBound (bytes_of store.old) part.now }
     ensures only_full { PassesBound (bytes_of store.old) part.now → IsErrOf result down.JournalFull ⊎ IsErrOf result down.NoMemory }
-    ensures frugal { IfSome part.now (λ x. is_state x ≡ true) → IsErrOf result down.NoMemory → Rose (D.starved (disk_of store.old)) (D.starved (disk_of store.new)) }
+    ensures frugal { IfSome part.now (λ x. is_state x ≡ true) → IsErrOf result down.NoMemory
+        → Rose (D.starved (disk_of store.old)) (D.starved (disk_of store.new)) }
 {
     match part {
         Some(part) => match store.write_step(alloc, part) {
@@ -96,7 +102,8 @@ fn write<D: Disk>(alloc: Global, store: &mut Store<D>, part: &Option<Part>) -> R
 
 /// Whether the part of a step is the snapshot of another member.
 fn is_installed(event: &RaftEvent, part: &Option<Part>) -> bool
-    ensures { (e : Event) (x : Option Written) (group : Group) → event_of event.now ≡ Some e → part.now ≡ option_map (part_of group) x → result ≡ is_installed e x }
+    ensures { (e : Event) (x : Option Written) (group : Group) → event_of event.now ≡ Some e
+        → part.now ≡ option_map (part_of group) x → result ≡ is_installed e x }
 {
     match (event, part) {
         (RaftEvent::Got(_), Some(Part::Snapshot(_, _, _, _, _))) => true,
@@ -115,11 +122,13 @@ fn give_up(out: &mut RaftOut)
 
 /// Says what a step did.
 fn tell(event: &RaftEvent, before: Role, part: &Option<Part>, state: &Volatile, out: &mut RaftOut)
-    ensures kept { (out.new.messages.items ≡ out.old.messages.items) × ((out.new.looks.items ≡ out.old.looks.items) × (out.new.lost.items ≡ out.old.lost.items)) }
+    ensures kept { (out.new.messages.items ≡ out.old.messages.items)
+        × ((out.new.looks.items ≡ out.old.looks.items) × (out.new.lost.items ≡ out.old.lost.items)) }
     ensures commit { out.new.commit ≡ state.now.commit }
     ensures stepped_down { out.new.stepped_down ≡ is_leader before && not (is_leader state.now.role) }
     ensures took_office { out.new.took_office ≡ not (is_leader before) && is_leader state.now.role }
-    ensures installed { (e : Event) (x : Option Written) (group : Group) → event_of event.now ≡ Some e → part.now ≡ option_map (part_of group) x → out.new.installed ≡ is_installed e x }
+    ensures installed { (e : Event) (x : Option Written) (group : Group) → event_of event.now ≡ Some e
+        → part.now ≡ option_map (part_of group) x → out.new.installed ≡ is_installed e x }
     ensures wrote { out.new.wrote ≡ is_some part.now }
 {
     let led = is_leader(before);
@@ -133,6 +142,7 @@ fn tell(event: &RaftEvent, before: Role, part: &Option<Part>, state: &Volatile, 
 
 impl Raft {
     ghost use Rattle.cp_raft.specs.Rafts.{HasStored, MayGoOn, seat_of, state_of};
+    ghost use Rattle.cp_raft.specs.Results.{Crashes, Halts, Leaves, Steps, Wants, part_at, step_of, stored_in};
 
     /// A member begins with a group that stands in its store.
     pub fn begin<D: Disk>(
@@ -180,7 +190,8 @@ impl Raft {
         message: &Message,
     ) -> Result<Option<Vec<u8>>, NoMemory>
         requires { has_group (held_by store.now) (seat_of self.now).group.0 ≡ true }
-        ensures { IfOk result (λ whole. option_map (λ bytes. bytes.items) whole ≡ completed (group_in (held_by store.now) (seat_of self.now).group.0) (state_of self.now) message.now.body) }
+        ensures { IfOk result (λ whole. option_map (λ bytes. bytes.items) whole
+            ≡ completed (stored_in self.now store.now) (state_of self.now) message.now.body) }
     {
         match &message.body {
             Body::Snapshot(chunk) => {
@@ -202,44 +213,77 @@ impl Raft {
     ) -> Result<Outcome, Down>
         requires whole { is_spent store.old ≡ false }
         requires kind { IsSome (event_of event.now) }
-        requires stored { HasStored (held_by store.old) (seat_of self.old) (group_in (held_by store.old) (seat_of self.old).group.0) }
-        requires may { ForSome (event_of event.now) (λ e. MayStep (seat_of self.old).me (group_in (held_by store.old) (seat_of self.old).group.0) (state_of self.old) e) }
+        requires stored { HasStored (held_by store.old) (seat_of self.old) (stored_in self.old store.old) }
+        requires may { ForSome (event_of event.now)
+            (λ e. MayStep (seat_of self.old).me (stored_in self.old store.old) (state_of self.old) e) }
         requires names { ForSome (event_of event.now) (λ e. NamesMember e) }
 
-        // What was done is the step.
-        ensures did { (e : Event) → event_of event.now ≡ Some e → IfOk result (λ outcome. outcome ≡ (step (seat_of self.old).me (group_in (held_by store.old) (seat_of self.old).group.0) (state_of self.old) e).outcome) }
-        ensures state { (e : Event) → event_of event.now ≡ Some e → OnOk result (state_of self.new ≡ (step (seat_of self.old).me (group_in (held_by store.old) (seat_of self.old).group.0) (state_of self.old) e).state) }
-        ensures held { (e : Event) → event_of event.now ≡ Some e → OnOk result (held_by store.new ≡ after_step (seat_of self.old) (step (seat_of self.old).me (group_in (held_by store.old) (seat_of self.old).group.0) (state_of self.old) e).part (held_by store.old)) }
-        ensures told { (e : Event) → event_of event.now ≡ Some e → OnOk result (IsTold (seat_of self.old) (state_of self.old) e (step (seat_of self.old).me (group_in (held_by store.old) (seat_of self.old).group.0) (state_of self.old) e) out.new) }
+        // What was done is the step that the rules define, and the next one may be taken.
+        ensures steps { (e : Event) → event_of event.now ≡ Some e
+            → IfOk result (λ outcome. Steps self.old store.old e self.new store.new outcome out.new) }
+
+        // Where the member is down nothing is handed over, and the store has what it had.
+        ensures halts { IfErr result (λ why. Halts store.old store.new why out.new) }
+        ensures leaves { Leaves self.old self.new store.old store.new result }
+
+        // When the journal is full, and which steps take no memory.
+        ensures wants { (e : Event) → event_of event.now ≡ Some e → Wants self.old store.old e out.old store.new result }
+
+        // A crash at any moment of the call leaves the parts from before it, with the one of the step or without.
+        ensures crashes { (e : Event) → event_of event.now ≡ Some e → Crashes self.old store.old e store.new }
+    {
+        self.take(alloc, store, event, out)
+    }
+
+    /// Takes one step, with each promise apart.
+    fn take<D: Disk>(
+        &mut self,
+        alloc: Global,
+        store: &mut Store<D>,
+        event: &RaftEvent,
+        out: &mut RaftOut,
+    ) -> Result<Outcome, Down>
+        requires whole { is_spent store.old ≡ false }
+        requires kind { IsSome (event_of event.now) }
+        requires stored { HasStored (held_by store.old) (seat_of self.old) (stored_in self.old store.old) }
+        requires may { ForSome (event_of event.now)
+            (λ e. MayStep (seat_of self.old).me (stored_in self.old store.old) (state_of self.old) e) }
+        requires names { ForSome (event_of event.now) (λ e. NamesMember e) }
+        ensures did { (e : Event) → event_of event.now ≡ Some e
+            → IfOk result (λ outcome. outcome ≡ (step_of self.old store.old e).outcome) }
+        ensures state { (e : Event) → event_of event.now ≡ Some e
+            → OnOk result (state_of self.new ≡ (step_of self.old store.old e).state) }
+        ensures held { (e : Event) → event_of event.now ≡ Some e
+            → OnOk result (held_by store.new ≡ after_step (seat_of self.old) (step_of self.old store.old e).part (held_by store.old)) }
+        ensures told { (e : Event) → event_of event.now ≡ Some e
+            → OnOk result (IsTold (seat_of self.old) (state_of self.old) e (step_of self.old store.old e) out.new) }
         ensures seat { seat_of self.new ≡ seat_of self.old }
         ensures first { first_of store.new ≡ first_of store.old }
         ensures spent { is_spent store.new ≡ is_disk_fault result }
-
-        // Once it answered Ok, every crash leaves its part.
-        ensures durable { (e : Event) (x : Written) → event_of event.now ≡ Some e → (step (seat_of self.old).me (group_in (held_by store.old) (seat_of self.old).group.0) (state_of self.old) e).part ≡ Some x → D.Told → OnOk result (Only (D.seen (disk_of store.new)) (D.may_leave (disk_of store.new))) }
-
-        // So the next step may be taken.
-        ensures stays { (e : Event) → event_of event.now ≡ Some e → OnOk result (MayGoOn (held_by store.new) (seat_of self.new) (state_of self.new)) }
-
-        // Where it is down nothing is handed over, and the store has what it had.
+        ensures durable { (e : Event) (x : Written) → event_of event.now ≡ Some e → (step_of self.old store.old e).part ≡ Some x → D.Told
+            → OnOk result (Only (D.seen (disk_of store.new)) (D.may_leave (disk_of store.new))) }
+        ensures stays { (e : Event) → event_of event.now ≡ Some e
+            → OnOk result (MayGoOn (held_by store.new) (seat_of self.new) (state_of self.new)) }
         ensures nothing_sent { OnErr result ((out.new.messages.items ≡ []) × ((out.new.looks.items ≡ []) × (out.new.lost.items ≡ []))) }
         ensures nothing_held { OnErr result (held_by store.new ≡ held_by store.old) }
         ensures cause { IfErr result (StepCause (D.faults (disk_of store.old)) (D.faults (disk_of store.new))) }
-        ensures later { (D.faults (disk_of store.old) ≤ D.faults (disk_of store.new)) × (D.starved (disk_of store.old) ≤ D.starved (disk_of store.new)) }
+        ensures later { (D.faults (disk_of store.old) ≤ D.faults (disk_of store.new))
+            × (D.starved (disk_of store.old) ≤ D.starved (disk_of store.new)) }
         ensures orders { D.orders (disk_of store.new) ≡ D.orders (disk_of store.old) }
-
-        // It is full exactly where the file would pass its bound, unless memory runs out before.
-        ensures full { (e : Event) → event_of event.now ≡ Some e → IsErrOf result down.JournalFull → PassesBound (bytes_of store.old) (option_map (part_of (seat_of self.old).group) (step (seat_of self.old).me (group_in (held_by store.old) (seat_of self.old).group.0) (state_of self.old) e).part) }
-        ensures only_full { (e : Event) → event_of event.now ≡ Some e → PassesBound (bytes_of store.old) (option_map (part_of (seat_of self.old).group) (step (seat_of self.old).me (group_in (held_by store.old) (seat_of self.old).group.0) (state_of self.old) e).part) → IsErrOf result down.JournalFull ⊎ IsErrOf result down.NoMemory }
-
-        // A step on a vote, a pre-vote or the reply to one that brings no leadership takes no memory but the disk's, where there is
-        // room for eight messages and no read waits that can be answered.
-        ensures frugal { (e : Event) → event_of event.now ≡ Some e → is_voting e ≡ true → takes_office (state_of self.old) (step (seat_of self.old).me (group_in (held_by store.old) (seat_of self.old).group.0) (state_of self.old) e) ≡ false → NoneReady (seat_of self.old).me (group_in (held_by store.old) (seat_of self.old).group.0) (state_of self.old) → 8 ≤ spare out.old.messages → IsErrOf result down.NoMemory → Rose (D.starved (disk_of store.old)) (D.starved (disk_of store.new)) }
-
-        // A crash at any moment of the call leaves the parts from before it, with the one of the step or without; a step that
-        // writes none leaves the store.
-        ensures any_moment { (e : Event) (x : Written) → event_of event.now ≡ Some e → (step (seat_of self.old).me (group_in (held_by store.old) (seat_of self.old).group.0) (state_of self.old) e).part ≡ Some x → D.Told → LeavesOnly D.moment D.left_since (disk_of store.old) (disk_of store.new) (StandsForEither (first_of store.old) (held_by store.old) (with_part (part_of (seat_of self.old).group x) (held_by store.old))) }
-        ensures untouched { (e : Event) → event_of event.now ≡ Some e → (step (seat_of self.old).me (group_in (held_by store.old) (seat_of self.old).group.0) (state_of self.old) e).part ≡ None → store.new ≡ store.old }
+        ensures full { (e : Event) → event_of event.now ≡ Some e → IsErrOf result down.JournalFull
+            → PassesBound (bytes_of store.old) (part_at self.old store.old e) }
+        ensures only_full { (e : Event) → event_of event.now ≡ Some e → PassesBound (bytes_of store.old) (part_at self.old store.old e)
+            → IsErrOf result down.JournalFull ⊎ IsErrOf result down.NoMemory }
+        ensures frugal { (e : Event) → event_of event.now ≡ Some e → is_voting e ≡ true
+            → takes_office (state_of self.old) (step_of self.old store.old e) ≡ false
+            → NoneReady (seat_of self.old).me (stored_in self.old store.old) (state_of self.old) → 8 ≤ spare out.old.messages
+            → IsErrOf result down.NoMemory → Rose (D.starved (disk_of store.old)) (D.starved (disk_of store.new)) }
+        ensures any_moment { (e : Event) (x : Written) → event_of event.now ≡ Some e → (step_of self.old store.old e).part ≡ Some x → D.Told
+            → LeavesOnly D.moment D.left_since (disk_of store.old) (disk_of store.new)
+            (StandsForEither (first_of store.old) (held_by store.old)
+            (with_part (part_of (seat_of self.old).group x) (held_by store.old))) }
+        ensures untouched { (e : Event) → event_of event.now ≡ Some e → (step_of self.old store.old e).part ≡ None
+            → store.new ≡ store.old }
     {
         out.messages.clear();
         let before = self.state.role();

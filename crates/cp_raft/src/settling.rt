@@ -35,7 +35,9 @@ pub fn take_ready<G: Group>(
     state: &mut Volatile,
 ) -> Result<Vec<Look>, NoMemory>
     requires { last (G.stored stored.now) ≤ most_index }
-    ensures looks { IfOk result (λ looks. looks.items ≡ filter (is_ready seat.me (members_after (G.stored stored.now) part.now) state.old.reads state.old.commit) state.old.reads.looks) }
+    ensures looks { IfOk result (λ looks. looks.items ≡ filter
+        (is_ready seat.me (members_after (G.stored stored.now) part.now) state.old.reads state.old.commit)
+        state.old.reads.looks) }
     ensures state { OnOk result (state.new ≡ without_ready seat.me (members_after (G.stored stored.now) part.now) state.old) }
     ensures frugal { has_entries part.now ≡ false → NoneReady seat.me (G.stored stored.now) state.old → IsOk result }
 {

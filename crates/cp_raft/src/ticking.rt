@@ -41,7 +41,8 @@ fn confirms_again<G: Group>(
     state: &Volatile,
     out: &mut Vec<Message>,
 ) -> Result<(), NoMemory>
-    ensures { OnOk result (out.new.items ≡ out.old.items ++ messages_of seat (ticks.confirms_again seat.me (G.stored stored.now) state.now.reads)) }
+    ensures { OnOk result (out.new.items ≡ out.old.items
+        ++ messages_of seat (ticks.confirms_again seat.me (G.stored stored.now) state.now.reads)) }
 {
     if state.waiting() == 0 {
         return Ok(());
@@ -61,7 +62,8 @@ fn beat<G: Group>(
 ) -> Result<(), NoMemory>
     requires leads { state.old.role ≡ role.Leader }
     requires last { last (G.stored stored.now) ≤ most_index }
-    requires placed { (member : ℕ) → IsPlaced (last (G.stored stored.now)) (length (G.stored stored.now).snapshot) (peer state.old.peers member) }
+    requires placed { (member : ℕ) → IsPlaced (last (G.stored stored.now))
+        (length (G.stored stored.now).snapshot) (peer state.old.peers member) }
     ensures state { OnOk result (state.new ≡ beaten state.old) }
     ensures sends { OnOk result (out.new.items ≡ out.old.items ++ messages_of seat (beat_sends seat.me (G.stored stored.now) state.old)) }
 {
@@ -91,13 +93,21 @@ fn beats_after<G: Group>(
 ) -> Result<Did, NoMemory>
     requires leads { state.old.role ≡ role.Leader }
     requires last { last (G.stored stored.now) ≤ most_index }
-    requires placed { (member : ℕ) → IsPlaced (last (G.stored stored.now)) (length (G.stored stored.now).snapshot) (peer state.old.peers member) }
+    requires placed { (member : ℕ) → IsPlaced (last (G.stored stored.now))
+        (length (G.stored stored.now).snapshot) (peer state.old.peers member) }
     requires above { (G.stored stored.now).base < state.old.commit }
     requires within { state.old.commit ≤ last (G.stored stored.now) }
     requires reads_back { head_of bytes ≡ Some (own_head (G.stored stored.now) state.old.commit) }
-    ensures did { IfOk result (λ did. did ≡ record { part = option_map (part_of seat.group) (own_part (G.stored stored.now) state.old.commit (Some bytes)); outcome = outcome.Done }) }
+    ensures did { IfOk result (λ did. did ≡ record {
+      part = option_map (part_of seat.group)
+          (own_part (G.stored stored.now) state.old.commit (Some bytes));
+      outcome = outcome.Done;
+    }) }
     ensures state { OnOk result (state.new ≡ beaten (from_new (Some bytes) state.old)) }
-    ensures sends { OnOk result (out.new.items ≡ out.old.items ++ messages_of seat (beat_sends seat.me (after_part (own_part (G.stored stored.now) state.old.commit (Some bytes)) (G.stored stored.now)) (from_new (Some bytes) state.old))) }
+    ensures sends { OnOk result (out.new.items ≡ out.old.items
+        ++ messages_of seat (beat_sends seat.me (after_part
+        (own_part (G.stored stored.now) state.old.commit (Some bytes)) (G.stored stored.now))
+        (from_new (Some bytes) state.old))) }
 {
     let index = state.commit();
     state.send_from_start();
@@ -120,7 +130,9 @@ fn idles<G: Group>(
     requires sound { IsSound seat.me (G.stored stored.now) state.old }
     requires last { last (G.stored stored.now) ≤ most_index }
     requires due { (bytes : List ℕ) → machine.now ≡ Some bytes → IsSnapshotDue (G.stored stored.now) state.old bytes }
-    ensures { IfOk result (λ did. Does seat (ticks.beats seat.me (G.stored stored.now) (own_snapshot (G.stored stored.now) (does None state.old []) may_write machine.now)) did state.new out.old.items out.new.items) }
+    ensures { IfOk result (λ did. Does seat
+        (ticks.beats seat.me (G.stored stored.now) (own_snapshot (G.stored stored.now) (does None state.old []) may_write machine.now))
+        did state.new out.old.items out.new.items) }
 {
     match own_bytes(alloc, stored, state.commit(), may_write, machine)? {
         Some(bytes) => {
@@ -154,7 +166,9 @@ fn expires<G: Group>(
     requires leads { state.old.role ≡ role.Leader }
     requires room { last (G.stored stored.now) < most_index }
     requires plain { members_in entry.now ≡ None }
-    ensures { IfOk result (λ did. Does seat (ticks.beats seat.me (G.stored stored.now) (requests.proposes seat.me (G.stored stored.now) state.old entry.now)) did state.new out.old.items out.new.items) }
+    ensures { IfOk result (λ did. Does seat
+        (ticks.beats seat.me (G.stored stored.now) (requests.proposes seat.me (G.stored stored.now) state.old entry.now))
+        did state.new out.old.items out.new.items) }
 {
     let copy = copied(alloc, entry)?;
     let did = proposes(alloc, stored, seat, copy, state, out)?;
@@ -195,7 +209,10 @@ fn leads_on<G: Group>(
     requires last { last (G.stored stored.now) ≤ most_index }
     requires plain { (entry : List ℕ) → expiry.now ≡ Some entry → members_in entry ≡ None }
     requires due { (bytes : List ℕ) → machine.now ≡ Some bytes → IsSnapshotDue (G.stored stored.now) state.old bytes }
-    ensures { IfOk result (λ did. Does seat (ticks.beats seat.me (G.stored stored.now) (own_snapshot (G.stored stored.now) (ticks.expires seat.me (G.stored stored.now) state.old may_write expiry.now) may_write machine.now)) did state.new out.old.items out.new.items) }
+    ensures { IfOk result (λ did. Does seat
+        (ticks.beats seat.me (G.stored stored.now) (own_snapshot (G.stored stored.now)
+        (ticks.expires seat.me (G.stored stored.now) state.old may_write expiry.now) may_write machine.now))
+        did state.new out.old.items out.new.items) }
 {
     match expiry {
         Some(entry) => {
@@ -224,7 +241,10 @@ fn waits<G: Group>(
     requires follows { local.is_leader state.old.role ≡ false }
     requires sound { IsSound seat.me (G.stored stored.now) state.old }
     requires due { (bytes : List ℕ) → machine.now ≡ Some bytes → IsSnapshotDue (G.stored stored.now) state.old bytes }
-    ensures { IfOk result (λ did. Does seat (ticks.beats seat.me (G.stored stored.now) (own_snapshot (G.stored stored.now) (prevotes.times_out seat.me (G.stored stored.now) state.old may_write) may_write machine.now)) did state.new out.old.items out.new.items) }
+    ensures { IfOk result (λ did. Does seat
+        (ticks.beats seat.me (G.stored stored.now) (own_snapshot (G.stored stored.now)
+        (prevotes.times_out seat.me (G.stored stored.now) state.old may_write) may_write machine.now))
+        did state.new out.old.items out.new.items) }
 {
     let index = state.commit();
     let bytes = own_bytes(alloc, stored, index, may_write, machine)?;
@@ -254,7 +274,9 @@ pub fn on_tick<G: Group>(
     out: &mut Vec<Message>,
 ) -> Result<Did, NoMemory>
     requires may { MayStep seat.me (G.stored stored.now) state.old (local.Tick now may_write expiry.now machine.now) }
-    ensures { IfOk result (λ did. Does seat (ticks.on_tick seat.me (G.stored stored.now) state.old now may_write expiry.now machine.now) did state.new out.old.items out.new.items) }
+    ensures { IfOk result (λ did. Does seat
+        (ticks.on_tick seat.me (G.stored stored.now) state.old now may_write expiry.now machine.now)
+        did state.new out.old.items out.new.items) }
 {
     state.set_clock(now);
     if is_leader(state.role()) {

@@ -52,7 +52,8 @@ fn replacing(
     append: &Append,
     after: u64,
 ) -> Result<Part, NoMemory>
-    ensures { IfOk result (λ part. part ≡ journal.Append group ballot.term ballot.vote after (drop (after - append.now.previous_index) (entries_in append.now))) }
+    ensures { IfOk result (λ part. part ≡ journal.Append group ballot.term ballot.vote after
+        (drop (after - append.now.previous_index) (entries_in append.now))) }
 {
     let known = after.saturating_sub(append.previous_index);
     let entries = copies(alloc, behind(append.entries.as_slice(), known))?;
@@ -79,7 +80,8 @@ fn accepts(
 ) -> Result<(), NoMemory>
     requires { last_in append.now ≤ most_index }
     ensures state { OnOk result (state.new ≡ told_to append.now.commit (last_in append.now) state.old) }
-    ensures sends { OnOk result (out.new.items ≡ out.old.items ++ messages_of seat (local.reply from (local.AppendReply term true (last_in append.now)))) }
+    ensures sends { OnOk result (out.new.items ≡ out.old.items
+        ++ messages_of seat (local.reply from (local.AppendReply term true (last_in append.now)))) }
 {
     let index = last_of(append);
     state.set_commit(follower_commit(state.commit(), append.commit, index));
@@ -100,7 +102,9 @@ fn follows<G: Group>(
     out: &mut Vec<Message>,
 ) -> Result<Did, NoMemory>
     requires { last_in append.now ≤ most_index }
-    ensures { IfOk result (λ did. Does seat (follows (G.stored stored.now) now state.old from append.now.commit append.now.previous_index (entries_in append.now) followed) did state.new out.old.items out.new.items) }
+    ensures { IfOk result (λ did. Does seat
+        (follows (G.stored stored.now) now state.old from append.now.commit append.now.previous_index (entries_in append.now) followed)
+        did state.new out.old.items out.new.items) }
 {
     match followed {
         Followed::Refused(index) => {
@@ -135,8 +139,13 @@ pub fn on_append<G: Group>(
     state: &mut Volatile,
     out: &mut Vec<Message>,
 ) -> Result<Did, NoMemory>
-    requires may { MayStep seat.me (G.stored stored.now) state.old (local.Got from (local.Append append.now.term append.now.previous_index append.now.previous_term append.now.commit (entries_in append.now))) }
-    ensures { IfOk result (λ did. Does seat (appends.on_append (G.stored stored.now) state.old from append.now.term append.now.previous_index append.now.previous_term append.now.commit (entries_in append.now)) did state.new out.old.items out.new.items) }
+    requires may { MayStep seat.me (G.stored stored.now) state.old
+        (local.Got from (local.Append append.now.term append.now.previous_index append.now.previous_term
+        append.now.commit (entries_in append.now))) }
+    ensures { IfOk result (λ did. Does seat
+        (appends.on_append (G.stored stored.now) state.old from append.now.term append.now.previous_index
+        append.now.previous_term append.now.commit (entries_in append.now))
+        did state.new out.old.items out.new.items) }
 {
     let own = ballot_of(stored);
     if append.term < own.term {

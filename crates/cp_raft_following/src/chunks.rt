@@ -34,7 +34,9 @@ fn answers<G: Group>(
     state: &Volatile,
     out: &mut Vec<Message>,
 ) -> Result<Did, NoMemory>
-    ensures { IfOk result (λ did. Does seat (snapshots.answers (G.stored stored.now) state.now from chunk.now.term chunk.now.index done_with received) did state.now out.old.items out.new.items) }
+    ensures { IfOk result (λ did. Does seat
+        (snapshots.answers (G.stored stored.now) state.now from chunk.now.term chunk.now.index done_with received)
+        did state.now out.old.items out.new.items) }
 {
     let body = snapshot_reply(seat.group, chunk.term, chunk.index, done_with, received);
     post(seat, from, body, out)?;
@@ -52,7 +54,9 @@ fn installs<G: Group>(
     state: &mut Volatile,
     out: &mut Vec<Message>,
 ) -> Result<Did, NoMemory>
-    ensures { IfOk result (λ did. Does seat (snapshots.installs (G.stored stored.now) state.old from chunk.now.term chunk.now.index bytes) did state.new out.old.items out.new.items) }
+    ensures { IfOk result (λ did. Does seat
+        (snapshots.installs (G.stored stored.now) state.old from chunk.now.term chunk.now.index bytes)
+        did state.new out.old.items out.new.items) }
 {
     state.follow(from);
     state.set_commit(chunk.index);
@@ -75,7 +79,9 @@ fn takes_whole<G: Group>(
     state: &mut Volatile,
     out: &mut Vec<Message>,
 ) -> Result<Did, NoMemory>
-    ensures { IfOk result (λ did. Does seat (snapshots.takes_chunk (G.stored stored.now) state.old from chunk.now.term chunk.now.index (snapshots.Whole bytes)) did state.new out.old.items out.new.items) }
+    ensures { IfOk result (λ did. Does seat
+        (snapshots.takes_chunk (G.stored stored.now) state.old from chunk.now.term chunk.now.index (snapshots.Whole bytes))
+        did state.new out.old.items out.new.items) }
 {
     if lacks_head(alloc, bytes.as_slice())? {
         Ok(done(None))
@@ -94,7 +100,10 @@ fn takes_chunk<G: Group>(
     state: &mut Volatile,
     out: &mut Vec<Message>,
 ) -> Result<Did, NoMemory>
-    ensures { IfOk result (λ did. Does seat (snapshots.takes_chunk (G.stored stored.now) state.old from chunk.now.term chunk.now.index (progress_at chunk.now state.old.received)) did state.new out.old.items out.new.items) }
+    ensures { IfOk result (λ did. Does seat
+        (snapshots.takes_chunk (G.stored stored.now) state.old from chunk.now.term chunk.now.index
+        (progress_at chunk.now state.old.received))
+        did state.new out.old.items out.new.items) }
 {
     match state.take_chunk(alloc, chunk)? {
         Joined::TooLong => Ok(done(None)),
@@ -116,7 +125,10 @@ pub fn on_snapshot<G: Group>(
     state: &mut Volatile,
     out: &mut Vec<Message>,
 ) -> Result<Did, NoMemory>
-    ensures { IfOk result (λ did. Does seat (snapshots.on_snapshot (G.stored stored.now) state.old from chunk.now.term chunk.now.index chunk.now.offset chunk.now.last chunk.now.bytes) did state.new out.old.items out.new.items) }
+    ensures { IfOk result (λ did. Does seat
+        (snapshots.on_snapshot (G.stored stored.now) state.old from chunk.now.term chunk.now.index
+        chunk.now.offset chunk.now.last chunk.now.bytes)
+        did state.new out.old.items out.new.items) }
 {
     let own = stored.term();
     if chunk.term < own {
@@ -154,7 +166,9 @@ pub fn completes<G: Group>(
     chunk: &Chunk,
     state: &Volatile,
 ) -> Result<Option<Vec<u8>>, NoMemory>
-    ensures { IfOk result (λ whole. option_map (λ bytes. bytes.items) whole ≡ snapshots.completes (G.stored stored.now) state.now chunk.now.term chunk.now.index chunk.now.offset chunk.now.last chunk.now.bytes) }
+    ensures { IfOk result (λ whole. option_map (λ bytes. bytes.items) whole
+        ≡ snapshots.completes (G.stored stored.now) state.now chunk.now.term chunk.now.index chunk.now.offset
+        chunk.now.last chunk.now.bytes) }
 {
     if chunk.term < stored.term() {
         return Ok(None);

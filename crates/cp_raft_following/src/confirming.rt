@@ -17,7 +17,9 @@ pub fn on_confirm<G: Group>(
     state: &mut Volatile,
     out: &mut Vec<Message>,
 ) -> Result<Did, NoMemory>
-    ensures { IfOk result (λ did. Does seat (confirming.on_confirm (G.stored stored.now) state.old from ask.now.term ask.now.round) did state.new out.old.items out.new.items) }
+    ensures { IfOk result (λ did. Does seat
+        (confirming.on_confirm (G.stored stored.now) state.old from ask.now.term ask.now.round)
+        did state.new out.old.items out.new.items) }
 {
     let own = stored.term();
     if ask.term < own {

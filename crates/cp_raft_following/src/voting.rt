@@ -35,7 +35,9 @@ pub fn on_prevote<G: Group>(
     state: &Volatile,
     out: &mut Vec<Message>,
 ) -> Result<Did, NoMemory>
-    ensures did { IfOk result (λ did. Does seat (prevotes.on_prevote (G.stored stored.now) state.now from request.now.term (end_in request.now)) did state.now out.old.items out.new.items) }
+    ensures did { IfOk result (λ did. Does seat
+        (prevotes.on_prevote (G.stored stored.now) state.now from request.now.term (end_in request.now))
+        did state.now out.old.items out.new.items) }
     ensures frugal { 0 < spare out.old → IsOk result }
 {
     let hears_none = hears_no_leader(state.role(), state.leader(), state.silence());
@@ -57,7 +59,8 @@ pub fn on_prevote<G: Group>(
 
 /// Whether a member gives its vote, in this ballot.
 fn is_granted<G: Group>(stored: &G, from: u8, now: Ballot, request: &VoteRequest) -> bool
-    ensures { result ≡ votes.grants_vote now from request.now.term (prevotes.is_up_to_date (end_in request.now) (log_end (G.stored stored.now))) }
+    ensures { result ≡ votes.grants_vote now from request.now.term
+        (prevotes.is_up_to_date (end_in request.now) (log_end (G.stored stored.now))) }
 {
     let up_to_date = is_up_to_date(end_of(request), log_end(stored));
     grants_vote(now, from, request.term, up_to_date)
@@ -72,7 +75,9 @@ pub fn on_vote<G: Group>(
     state: &mut Volatile,
     out: &mut Vec<Message>,
 ) -> Result<Did, NoMemory>
-    ensures did { IfOk result (λ did. Does seat (votes.on_vote (G.stored stored.now) state.old from request.now.term (end_in request.now)) did state.new out.old.items out.new.items) }
+    ensures did { IfOk result (λ did. Does seat
+        (votes.on_vote (G.stored stored.now) state.old from request.now.term (end_in request.now))
+        did state.new out.old.items out.new.items) }
     ensures frugal { 0 < spare out.old → IsOk result }
 {
     let term = request.term;

@@ -37,9 +37,11 @@ fn asked(group: GroupId, ask: Ask) -> Body
 /// Asks a member, unless it is oneself.
 #[tactic(auto, using(crate::proofs::Others::to_other, crate::proofs::Others::to_self, crate::proofs::Others::other_in, crate::proofs::Others::self_out))]
 fn ask_other(seat: Seat, member: u8, ask: Ask, out: &mut Vec<Message>) -> Result<(), NoMemory>
-    ensures sends { OnOk result ((rest : List ℕ) → out.new.items ++ to_others seat (asks ask) rest ≡ out.old.items ++ to_others seat (asks ask) (member ∷ rest)) }
+    ensures sends { OnOk result ((rest : List ℕ) → out.new.items ++ to_others seat (asks ask) rest
+        ≡ out.old.items ++ to_others seat (asks ask) (member ∷ rest)) }
     ensures frugal { (rest : List ℕ) → length (others seat.me (member ∷ rest)) ≤ spare out.old → IsOk result }
-    ensures room { (rest : List ℕ) → length (others seat.me (member ∷ rest)) ≤ spare out.old → length (others seat.me rest) ≤ spare out.new }
+    ensures room { (rest : List ℕ) → length (others seat.me (member ∷ rest)) ≤ spare out.old
+        → length (others seat.me rest) ≤ spare out.new }
 {
     if member == seat.me {
         return Ok(());
@@ -54,7 +56,8 @@ pub fn ask_others(
     ask: Ask,
     out: &mut Vec<Message>,
 ) -> Result<(), NoMemory>
-    ensures sends { OnOk result (out.new.items ≡ out.old.items ++ messages_of seat (map (λ f. send f (asked ask)) (others seat.me members.now))) }
+    ensures sends { OnOk result (out.new.items ≡ out.old.items
+        ++ messages_of seat (map (λ f. send f (asked ask)) (others seat.me members.now))) }
     ensures frugal { length (others seat.me members.now) ≤ spare out.old → IsOk result }
 {
     let mut rest = members;

@@ -129,7 +129,9 @@ fn changes<G: Group>(
     requires few { length (members (G.stored stored.now)) ≤ 9 }
     requires member { IsMember change.now.member.0 }
     requires call { IsNamed call.now }
-    ensures { IfOk result (λ did. Does seat (changes.changes seat.me (G.stored stored.now) state.old change.now plan call.now) did state.new out.old.items out.new.items) }
+    ensures { IfOk result (λ did. Does seat
+        (changes.changes seat.me (G.stored stored.now) state.old change.now plan call.now)
+        did state.new out.old.items out.new.items) }
 {
     let made = changed(alloc, change, members(stored))?;
     let entry = members_entry(alloc, call, plan, &made)?;
@@ -154,7 +156,10 @@ fn changes_if_fit<G: Group>(
     requires few { length (members (G.stored stored.now)) ≤ 9 }
     requires member { IsMember change.now.member.0 }
     requires call { IsNamed call.now }
-    ensures { IfOk result (λ did. Does seat (unless_refused (changes.refuses_change (G.stored stored.now) state.old change.now) state.old (changes.changes seat.me (G.stored stored.now) state.old change.now plan call.now)) did state.new out.old.items out.new.items) }
+    ensures { IfOk result (λ did. Does seat
+        (unless_refused (changes.refuses_change (G.stored stored.now) state.old change.now) state.old
+        (changes.changes seat.me (G.stored stored.now) state.old change.now plan call.now))
+        did state.new out.old.items out.new.items) }
 {
     let committed = known_term(stored, state.commit());
     match may_change(
@@ -183,7 +188,9 @@ pub fn on_change<G: Group>(
 ) -> Result<Did, NoMemory>
     requires may { MayStep seat.me (G.stored stored.now) state.old (local.ChangeMembers change.now plan call.now) }
     requires member { IsMember change.now.member.0 }
-    ensures { IfOk result (λ did. Does seat (changes.on_change seat.me (G.stored stored.now) state.old change.now plan call.now) did state.new out.old.items out.new.items) }
+    ensures { IfOk result (λ did. Does seat
+        (changes.on_change seat.me (G.stored stored.now) state.old change.now plan call.now)
+        did state.new out.old.items out.new.items) }
 {
     match may_propose(state.role(), state.leader(), stored.last(), state.commit()) {
         Ok(()) => changes_if_fit(alloc, stored, seat, change, plan, call, state, out),

@@ -54,9 +54,13 @@ fn announces<G: Group>(
     requires room { last (G.stored stored.now) < most_index }
     requires above_base { (G.stored stored.now).base ≤ state.old.commit }
     requires within { state.old.commit ≤ last (G.stored stored.now) }
-    requires placed { (member : ℕ) → IsPlaced (suc (last (G.stored stored.now))) (length (G.stored stored.now).snapshot) (peer state.old.peers member) }
-    ensures state { OnOk result (state.new ≡ commit.commits seat.me (with_part (created_part (G.stored stored.now) ballot entry.now) (G.stored stored.now)) state.old) }
-    ensures sends { OnOk result (out.new.items ≡ out.old.items ++ messages_of seat (appends seat.me (with_part (created_part (G.stored stored.now) ballot entry.now) (G.stored stored.now)) state.new)) }
+    requires placed { (member : ℕ) → IsPlaced (suc (last (G.stored stored.now)))
+        (length (G.stored stored.now).snapshot) (peer state.old.peers member) }
+    ensures state { OnOk result (state.new ≡ commit.commits seat.me
+        (with_part (created_part (G.stored stored.now) ballot entry.now) (G.stored stored.now)) state.old) }
+    ensures sends { OnOk result (out.new.items ≡ out.old.items
+        ++ messages_of seat (appends seat.me (with_part (created_part (G.stored stored.now) ballot entry.now)
+        (G.stored stored.now)) state.new)) }
 {
     let appended = Appended::to(alloc, stored, ballot, entry)?;
     commits(&appended, seat.me, state);
@@ -77,8 +81,11 @@ pub fn creates<G: Group>(
     requires room { last (G.stored stored.now) < most_index }
     requires above_base { (G.stored stored.now).base ≤ state.old.commit }
     requires within { state.old.commit ≤ last (G.stored stored.now) }
-    requires placed { (member : ℕ) → IsPlaced (suc (last (G.stored stored.now))) (length (G.stored stored.now).snapshot) (peer state.old.peers member) }
-    ensures { IfOk result (λ did. Does seat (leadership.creates seat.me (G.stored stored.now) state.old ballot entry) did state.new out.old.items out.new.items) }
+    requires placed { (member : ℕ) → IsPlaced (suc (last (G.stored stored.now)))
+        (length (G.stored stored.now).snapshot) (peer state.old.peers member) }
+    ensures { IfOk result (λ did. Does seat
+        (leadership.creates seat.me (G.stored stored.now) state.old ballot entry)
+        did state.new out.old.items out.new.items) }
 {
     announces(alloc, stored, seat, ballot, entry.as_slice(), state, out)?;
     let part = created_part(alloc, stored, seat.group, ballot, entry)?;
@@ -114,7 +121,9 @@ pub fn takes_leadership<G: Group>(
     requires room { last (G.stored stored.now) < most_index }
     requires above_base { (G.stored stored.now).base ≤ state.old.commit }
     requires within { state.old.commit ≤ last (G.stored stored.now) }
-    ensures { IfOk result (λ did. Does seat (leadership.takes_leadership seat.me (G.stored stored.now) state.old term) did state.new out.old.items out.new.items) }
+    ensures { IfOk result (λ did. Does seat
+        (leadership.takes_leadership seat.me (G.stored stored.now) state.old term)
+        did state.new out.old.items out.new.items) }
 {
     leads(stored, seat.me, state);
     let ballot = Ballot {

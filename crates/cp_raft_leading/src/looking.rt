@@ -35,8 +35,11 @@ pub fn on_confirmed<G: Group>(
     reply: &Confirmed,
     state: &mut Volatile,
 ) -> Did
-    requires may { MayStep seat.me (G.stored stored.now) state.old (local.Got from (local.Confirmed reply.now.term reply.now.accepted reply.now.round)) }
-    ensures { Does seat (confirming.on_confirmed (G.stored stored.now) state.old from reply.now.term reply.now.accepted reply.now.round) result state.new [] [] }
+    requires may { MayStep seat.me (G.stored stored.now) state.old
+        (local.Got from (local.Confirmed reply.now.term reply.now.accepted reply.now.round)) }
+    ensures { Does seat
+        (confirming.on_confirmed (G.stored stored.now) state.old from reply.now.term reply.now.accepted reply.now.round)
+        result state.new [] [] }
 {
     if stored.term() < reply.term {
         adopts(seat.group, reply.term, state)
@@ -60,7 +63,10 @@ fn begins_round<G: Group>(
     out: &mut Vec<Message>,
 ) -> Result<Did, NoMemory>
     requires { state.old.reads.round < most_index }
-    ensures { IfOk result (λ did. Does seat (confirming.begins_round seat.me (G.stored stored.now) state.old (confirming.waits (G.stored stored.now) state.old.reads call attempt op.now)) did state.new out.old.items out.new.items) }
+    ensures { IfOk result (λ did. Does seat
+        (confirming.begins_round seat.me (G.stored stored.now) state.old
+        (confirming.waits (G.stored stored.now) state.old.reads call attempt op.now))
+        did state.new out.old.items out.new.items) }
 {
     let op = Vec::from_slice(alloc, op)?;
     state.wait(call, attempt, stored.last(), Items::from_vec(op))?;
@@ -82,7 +88,9 @@ pub fn on_read<G: Group>(
     out: &mut Vec<Message>,
 ) -> Result<Did, NoMemory>
     requires may { MayStep seat.me (G.stored stored.now) state.old (local.Read call attempt op.now) }
-    ensures { IfOk result (λ did. Does seat (confirming.on_read seat.me (G.stored stored.now) state.old call attempt op.now) did state.new out.old.items out.new.items) }
+    ensures { IfOk result (λ did. Does seat
+        (confirming.on_read seat.me (G.stored stored.now) state.old call attempt op.now)
+        did state.new out.old.items out.new.items) }
 {
     if !is_leader(state.role()) {
         return Ok(refused(Refusal::NotLeader(state.leader())));

@@ -41,7 +41,9 @@ pub fn adopts(group: GroupId, term: u64, state: &mut Volatile) -> Did
 
 /// A reply at one that does not lead: its term is adopted where it is greater.
 fn adopts_greater<G: Group>(stored: &G, seat: Seat, term: u64, state: &mut Volatile) -> Did
-    ensures { Does seat (if nat_lt (G.stored stored.now).term term then terms.adopts term (G.stored stored.now) state.old else does None state.old []) result state.new [] [] }
+    ensures { Does seat
+        (if nat_lt (G.stored stored.now).term term then terms.adopts term (G.stored stored.now) state.old else does None state.old [])
+        result state.new [] [] }
 {
     if stored.term() < term {
         adopts(seat.group, term, state)
@@ -70,7 +72,8 @@ fn append_if<G: Group>(
 ) -> Result<(), NoMemory>
     requires last { last (G.stored stored.now) ≤ most_index }
     requires placed { IsPlaced (last (G.stored stored.now)) (length (G.stored stored.now).snapshot) (peer state.now.peers member) }
-    ensures { OnOk result (out.new.items ≡ out.old.items ++ messages_of seat (if is_due then append_to (G.stored stored.now) state.now member ∷ [] else [])) }
+    ensures { OnOk result (out.new.items ≡ out.old.items
+        ++ messages_of seat (if is_due then append_to (G.stored stored.now) state.now member ∷ [] else [])) }
 {
     if is_due {
         append_to(alloc, stored, seat, state, member, out)
@@ -92,7 +95,9 @@ fn leads_on<G: Group>(
     requires leads { MayLead (G.stored stored.now) state.old }
     requires from { from < 10 }
     requires peer { IsPlaced (last (G.stored stored.now)) (length (G.stored stored.now).snapshot) peer }
-    ensures { IfOk result (λ did. Does seat (leads_on seat.me (G.stored stored.now) state.old from peer) did state.new out.old.items out.new.items) }
+    ensures { IfOk result (λ did. Does seat
+        (leads_on seat.me (G.stored stored.now) state.old from peer)
+        did state.new out.old.items out.new.items) }
 {
     state.set_peer(from, peer);
     commits(stored, seat.me, state);
@@ -114,7 +119,9 @@ fn matches<G: Group>(
 ) -> Result<Did, NoMemory>
     requires leads { MayLead (G.stored stored.now) state.old }
     requires from { from < 10 }
-    ensures { IfOk result (λ did. Does seat (replies.matches seat.me (G.stored stored.now) state.old from index) did state.new out.old.items out.new.items) }
+    ensures { IfOk result (λ did. Does seat
+        (replies.matches seat.me (G.stored stored.now) state.old from index)
+        did state.new out.old.items out.new.items) }
 {
     match matched(state.peer(from), stored.last(), index) {
         AppendReplied::Matched(peer) => leads_on(alloc, stored, seat, from, peer, state, out),
@@ -137,7 +144,9 @@ fn falls_to<G: Group>(
     requires leads { MayLead (G.stored stored.now) state.old }
     requires from { from < 10 }
     requires peer { IsPlaced (last (G.stored stored.now)) (length (G.stored stored.now).snapshot) peer }
-    ensures { IfOk result (λ did. Does seat (falls_to (G.stored stored.now) state.old from peer) did state.new out.old.items out.new.items) }
+    ensures { IfOk result (λ did. Does seat
+        (falls_to (G.stored stored.now) state.old from peer)
+        did state.new out.old.items out.new.items) }
 {
     let known = state.peer(from);
     state.set_peer(from, peer);
@@ -167,7 +176,9 @@ fn takes_reply<G: Group>(
     requires leads { MayLead (G.stored stored.now) state.old }
     requires from { from < 10 }
     requires named { reply.now.index ≤ most_index }
-    ensures { IfOk result (λ did. Does seat (replies.on_append_reply seat.me (G.stored stored.now) state.old from reply.now.term reply.now.accepted reply.now.index) did state.new out.old.items out.new.items) }
+    ensures { IfOk result (λ did. Does seat
+        (replies.on_append_reply seat.me (G.stored stored.now) state.old from reply.now.term reply.now.accepted reply.now.index)
+        did state.new out.old.items out.new.items) }
 {
     let known = state.peer(from);
     let replied = append_replied(
@@ -197,8 +208,11 @@ pub fn on_append_reply<G: Group>(
     state: &mut Volatile,
     out: &mut Vec<Message>,
 ) -> Result<Did, NoMemory>
-    requires may { MayStep seat.me (G.stored stored.now) state.old (local.Got from (local.AppendReply reply.now.term reply.now.accepted reply.now.index)) }
-    ensures { IfOk result (λ did. Does seat (replies.on_append_reply seat.me (G.stored stored.now) state.old from reply.now.term reply.now.accepted reply.now.index) did state.new out.old.items out.new.items) }
+    requires may { MayStep seat.me (G.stored stored.now) state.old
+        (local.Got from (local.AppendReply reply.now.term reply.now.accepted reply.now.index)) }
+    ensures { IfOk result (λ did. Does seat
+        (replies.on_append_reply seat.me (G.stored stored.now) state.old from reply.now.term reply.now.accepted reply.now.index)
+        did state.new out.old.items out.new.items) }
 {
     if is_leader(state.role()) {
         takes_reply(alloc, stored, seat, from, reply, state, out)
@@ -221,7 +235,9 @@ fn sends_chunk<G: Group>(
     requires snapshot { 0 < (G.stored stored.now).base }
     requires within { received ≤ length (G.stored stored.now).snapshot }
     requires from { from < 10 }
-    ensures { IfOk result (λ did. Does seat (does None (with_peer from peer state.old) (reply from (chunk_from (G.stored stored.now) received))) did state.new out.old.items out.new.items) }
+    ensures { IfOk result (λ did. Does seat
+        (does None (with_peer from peer state.old) (reply from (chunk_from (G.stored stored.now) received)))
+        did state.new out.old.items out.new.items) }
 {
     state.set_peer(from, peer);
     let body = chunk_from(alloc, stored, seat.group, received)?;
@@ -244,7 +260,9 @@ fn sends_more<G: Group>(
 ) -> Result<Did, NoMemory>
     requires leads { MayLead (G.stored stored.now) state.old }
     requires from { from < 10 }
-    ensures { IfOk result (λ did. Does seat (snapshots.sends_more (G.stored stored.now) state.old from index received) did state.new out.old.items out.new.items) }
+    ensures { IfOk result (λ did. Does seat
+        (snapshots.sends_more (G.stored stored.now) state.old from index received)
+        did state.new out.old.items out.new.items) }
 {
     let known = state.peer(from);
     if !needs_snapshot(known, stored.base()) {
@@ -273,8 +291,12 @@ pub fn on_snapshot_reply<G: Group>(
     state: &mut Volatile,
     out: &mut Vec<Message>,
 ) -> Result<Did, NoMemory>
-    requires may { MayStep seat.me (G.stored stored.now) state.old (local.Got from (local.SnapshotReply reply.now.term reply.now.index reply.now.done reply.now.received)) }
-    ensures { IfOk result (λ did. Does seat (snapshots.on_snapshot_reply seat.me (G.stored stored.now) state.old from reply.now.term reply.now.index reply.now.done reply.now.received) did state.new out.old.items out.new.items) }
+    requires may { MayStep seat.me (G.stored stored.now) state.old
+        (local.Got from (local.SnapshotReply reply.now.term reply.now.index reply.now.done reply.now.received)) }
+    ensures { IfOk result (λ did. Does seat
+        (snapshots.on_snapshot_reply seat.me (G.stored stored.now) state.old from reply.now.term reply.now.index
+        reply.now.done reply.now.received)
+        did state.new out.old.items out.new.items) }
 {
     if stored.term() < reply.term {
         return Ok(adopts(seat.group, reply.term, state));

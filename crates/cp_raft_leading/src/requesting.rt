@@ -29,8 +29,11 @@ pub fn proposes<G: Group>(
     requires room { last (G.stored stored.now) < most_index }
     requires above_base { (G.stored stored.now).base ≤ state.old.commit }
     requires within { state.old.commit ≤ last (G.stored stored.now) }
-    requires placed { (member : ℕ) → IsPlaced (suc (last (G.stored stored.now))) (length (G.stored stored.now).snapshot) (peer state.old.peers member) }
-    ensures { IfOk result (λ did. Does seat (requests.proposes seat.me (G.stored stored.now) state.old entry) did state.new out.old.items out.new.items) }
+    requires placed { (member : ℕ) → IsPlaced (suc (last (G.stored stored.now)))
+        (length (G.stored stored.now).snapshot) (peer state.old.peers member) }
+    ensures { IfOk result (λ did. Does seat
+        (requests.proposes seat.me (G.stored stored.now) state.old entry)
+        did state.new out.old.items out.new.items) }
 {
     let Did { part, outcome: _ } = creates(
         alloc,
@@ -56,7 +59,9 @@ pub fn on_propose<G: Group>(
     out: &mut Vec<Message>,
 ) -> Result<Did, NoMemory>
     requires may { MayStep seat.me (G.stored stored.now) state.old (local.Propose entry.now) }
-    ensures { IfOk result (λ did. Does seat (requests.on_propose seat.me (G.stored stored.now) state.old entry.now) did state.new out.old.items out.new.items) }
+    ensures { IfOk result (λ did. Does seat
+        (requests.on_propose seat.me (G.stored stored.now) state.old entry.now)
+        did state.new out.old.items out.new.items) }
 {
     match may_propose(state.role(), state.leader(), stored.last(), state.commit()) {
         Ok(()) => {

@@ -54,7 +54,9 @@ fn lacking<G: Group>(
 ) -> Result<Body, NoMemory>
     requires last { last (G.stored stored.now) ≤ most_index }
     requires placed { IsPlaced (last (G.stored stored.now)) (length (G.stored stored.now).snapshot) peer }
-    ensures { IfOk result (λ body. body ≡ body_of group (if nat_le peer.next (G.stored stored.now).base then sending.chunk_from (G.stored stored.now) peer.offset else sending.entries_from (G.stored stored.now) state.now peer.next)) }
+    ensures { IfOk result (λ body. body ≡ body_of group (if nat_le peer.next (G.stored stored.now).base
+        then sending.chunk_from (G.stored stored.now) peer.offset
+        else sending.entries_from (G.stored stored.now) state.now peer.next)) }
 {
     if needs_snapshot(peer, stored.base()) {
         return chunk_from(alloc, stored, group, peer.offset);
@@ -73,7 +75,8 @@ pub fn append_to<G: Group>(
 ) -> Result<(), NoMemory>
     requires last { last (G.stored stored.now) ≤ most_index }
     requires placed { IsPlaced (last (G.stored stored.now)) (length (G.stored stored.now).snapshot) (peer state.now.peers member) }
-    ensures { OnOk result (out.new.items ≡ out.old.items ++ messages_of seat (sending.append_to (G.stored stored.now) state.now member ∷ [])) }
+    ensures { OnOk result (out.new.items ≡ out.old.items
+        ++ messages_of seat (sending.append_to (G.stored stored.now) state.now member ∷ [])) }
 {
     let body = lacking(alloc, stored, seat.group, state, state.peer(member))?;
     post(seat, member, body, out)
@@ -91,7 +94,9 @@ fn append_to_other<G: Group>(
 ) -> Result<(), NoMemory>
     requires last { last (G.stored stored.now) ≤ most_index }
     requires placed { IsPlaced (last (G.stored stored.now)) (length (G.stored stored.now).snapshot) (peer state.now.peers member) }
-    ensures { OnOk result ((rest : List ℕ) → out.new.items ++ to_others seat (sending.append_to (G.stored stored.now) state.now) rest ≡ out.old.items ++ to_others seat (sending.append_to (G.stored stored.now) state.now) (member ∷ rest)) }
+    ensures { OnOk result ((rest : List ℕ) → out.new.items
+        ++ to_others seat (sending.append_to (G.stored stored.now) state.now) rest
+        ≡ out.old.items ++ to_others seat (sending.append_to (G.stored stored.now) state.now) (member ∷ rest)) }
 {
     if member == seat.me {
         return Ok(());
@@ -110,8 +115,10 @@ fn append_to_others<G: Group>(
     out: &mut Vec<Message>,
 ) -> Result<(), NoMemory>
     requires last { last (G.stored stored.now) ≤ most_index }
-    requires placed { (member : ℕ) → IsPlaced (last (G.stored stored.now)) (length (G.stored stored.now).snapshot) (peer state.now.peers member) }
-    ensures { OnOk result (out.new.items ≡ out.old.items ++ messages_of seat (map (sending.append_to (G.stored stored.now) state.now) (others seat.me members.now))) }
+    requires placed { (member : ℕ) → IsPlaced (last (G.stored stored.now))
+        (length (G.stored stored.now).snapshot) (peer state.now.peers member) }
+    ensures { OnOk result (out.new.items ≡ out.old.items
+        ++ messages_of seat (map (sending.append_to (G.stored stored.now) state.now) (others seat.me members.now))) }
 {
     let mut rest = members;
     while let [member, others @ ..] = rest {
@@ -131,7 +138,8 @@ pub fn appends<G: Group>(
     out: &mut Vec<Message>,
 ) -> Result<(), NoMemory>
     requires last { last (G.stored stored.now) ≤ most_index }
-    requires placed { state.now.role ≡ role.Leader → (member : ℕ) → IsPlaced (last (G.stored stored.now)) (length (G.stored stored.now).snapshot) (peer state.now.peers member) }
+    requires placed { state.now.role ≡ role.Leader → (member : ℕ)
+        → IsPlaced (last (G.stored stored.now)) (length (G.stored stored.now).snapshot) (peer state.now.peers member) }
     ensures { OnOk result (out.new.items ≡ out.old.items ++ messages_of seat (sending.appends seat.me (G.stored stored.now) state.now)) }
 {
     if !is_leader(state.role()) {

@@ -36,7 +36,8 @@ impl<'a, G: Group> Appended<'a, G> {
         entry: &'a [u8],
     ) -> Result<Appended<'a, G>, NoMemory>
         requires { last (G.stored before.now) < 2 ^ 64 - 1 }
-        ensures { IfOk result (λ appended. appended_to G.stored appended ≡ with_part (created_part (G.stored before.now) ballot entry.now) (G.stored before.now)) }
+        ensures { IfOk result (λ appended. appended_to G.stored appended
+            ≡ with_part (created_part (G.stored before.now) ballot entry.now) (G.stored before.now)) }
     {
         let brings = config_of_entry(alloc, before.last() + 1, entry)?;
         Ok(Appended {

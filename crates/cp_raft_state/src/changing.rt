@@ -113,7 +113,14 @@ impl Volatile {
     /// Leads, with a log that ends at `last`.
     pub fn lead(&mut self, me: u8, last: u64)
         requires { last < 2 ^ 64 - 1 }
-        ensures { self.new ≡ record self.old { role = role.Leader; leader = me; beat = self.old.clock; peers = everywhere (new_peer (suc last)); reads = no_reads } }
+        ensures { self.new ≡ record self.old {
+          role = role.Leader;
+          leader = me;
+          beat = self.old.clock;
+          peers =
+              everywhere (new_peer (suc last));
+          reads = no_reads;
+        } }
     {
         self.role = Role::Leader;
         self.leader = me;

@@ -81,7 +81,14 @@ pub fn append_body(
     commit: u64,
     entries: Items<LogEntry>,
 ) -> Body
-    ensures { result ≡ bodies.Append (record { group = group; term = term; previous_index = previous_index; previous_term = previous_term; commit = commit; entries = entries }) }
+    ensures { result ≡ bodies.Append (record {
+      group = group;
+      term = term;
+      previous_index = previous_index;
+      previous_term = previous_term;
+      commit = commit;
+      entries = entries;
+    }) }
 {
     Body::Append(Append {
         group,

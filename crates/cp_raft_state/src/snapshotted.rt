@@ -28,7 +28,8 @@ impl<'a, G: Group> Snapshotted<'a, G> {
         requires from { (G.stored before.now).base < index }
         requires to { index ≤ last (G.stored before.now) }
         requires reads_back { head_of bytes.now ≡ Some (own_head (G.stored before.now) index) }
-        ensures { snapshotted_from G.stored result ≡ with_part (SnapshotPart (ballot (G.stored before.now)) index bytes.now) (G.stored before.now) }
+        ensures { snapshotted_from G.stored result ≡ with_part
+            (SnapshotPart (ballot (G.stored before.now)) index bytes.now) (G.stored before.now) }
     {
         Snapshotted {
             before,

@@ -40,7 +40,8 @@ fn split_ready(
     looks: &mut Vec<Look>,
 ) -> Result<Vec<Look>, NoMemory>
     ensures ready { IfOk result (λ taken. taken.items ≡ filter (ready me members.now confirmed.now commit) looks.old.items) }
-    ensures waiting { OnOk result (looks.new.items ≡ filter (λ look. not (ready me members.now confirmed.now commit look)) looks.old.items) }
+    ensures waiting { OnOk result (looks.new.items ≡ filter
+        (λ look. not (ready me members.now confirmed.now commit look)) looks.old.items) }
 {
     let mut taken = Vec::new(alloc);
     let mut waiting = Vec::new(alloc);
@@ -67,7 +68,8 @@ fn take_ready(
     looks: &mut Vec<Look>,
 ) -> Result<Vec<Look>, NoMemory>
     ensures ready { IfOk result (λ taken. taken.items ≡ filter (ready me members.now confirmed.now commit) looks.old.items) }
-    ensures waiting { OnOk result (looks.new.items ≡ filter (λ look. not (ready me members.now confirmed.now commit look)) looks.old.items) }
+    ensures waiting { OnOk result (looks.new.items ≡ filter
+        (λ look. not (ready me members.now confirmed.now commit look)) looks.old.items) }
     ensures frugal { filter (ready me members.now confirmed.now commit) looks.old.items ≡ [] → IsOk result }
 {
     if has_ready(me, members, confirmed, commit, looks) {
@@ -129,9 +131,11 @@ impl Volatile {
         me: u8,
         members: &[u8],
     ) -> Result<Vec<Look>, NoMemory>
-        ensures looks { IfOk result (λ looks. looks.items ≡ filter (confirming.is_ready me members.now self.old.reads self.old.commit) self.old.reads.looks) }
+        ensures looks { IfOk result (λ looks. looks.items
+            ≡ filter (confirming.is_ready me members.now self.old.reads self.old.commit) self.old.reads.looks) }
         ensures state { OnOk result (self.new ≡ without_ready me members.now self.old) }
-        ensures frugal { filter (confirming.is_ready me members.now self.old.reads self.old.commit) self.old.reads.looks ≡ [] → IsOk result }
+        ensures frugal { filter (confirming.is_ready me members.now self.old.reads self.old.commit)
+            self.old.reads.looks ≡ [] → IsOk result }
     {
         let looks = take_ready(
             alloc,

@@ -6,12 +6,7 @@ ghost use Rattle.cp_rules.specs.Sending.{batch, within};
 ghost use Rattle.cp_replicate.specs.Logs.{size_at, fitting, from};
 
 use crate::by_index::Log;
-
-/// The most entries in one append.
-const BATCH_ENTRIES: u64 = 100;
-
-/// The most bytes of entries in one append that has more than one.
-const BATCH_BYTES: u64 = 32_768;
+use cp_base::limits::{MOST_CHUNK, MOST_ENTRIES};
 
 /// How many bytes the entry at an index has.
 fn size_at<L: Log>(log: &L, index: u64) -> Option<u64>
@@ -71,8 +66,8 @@ pub fn batch<L: Log>(log: &L, next: u64) -> u64
     match size_at(log, next) {
         None => 0,
         Some(size) => {
-            let bytes = BATCH_BYTES.saturating_sub(size);
-            1 + within(log, next + 1, BATCH_ENTRIES - 1, bytes)
+            let bytes = u64::from(MOST_CHUNK).saturating_sub(size);
+            1 + within(log, next + 1, u64::from(MOST_ENTRIES) - 1, bytes)
         }
     }
 }

@@ -60,8 +60,8 @@ pub fn commit_found<L: Log>(
     commit: u64,
 ) -> u64
     requires { commit ≤ last (L.stored log.now) }
-    ensures { result ≡ greatest (may_commit me (term_at (L.stored log.now)) term members.now peers.now) commit (last
-        (L.stored log.now) - commit) }
+    ensures { result ≡ greatest (may_commit me (term_at (L.stored log.now)) term members.now peers.now) commit
+        (last (L.stored log.now) - commit) }
 {
     let mut above = log.last() - commit;
     while above > 0 {

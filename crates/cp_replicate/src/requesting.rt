@@ -4,11 +4,9 @@ ghost use Rattle.cp_rules.specs.Requests.{refuses};
 ghost use Rattle.cp_replicate.specs.Decisions.{may_expire};
 
 use cp_answers::Refusal;
+use cp_base::limits::LAST_NUMBER;
 use cp_election::is_leader;
 use cp_rules::Role;
-
-/// The most that an index may be: 2^62.
-const MOST_INDEX: u64 = 1 << 62;
 
 /// So many entries that are not committed make a leader refuse another.
 const MOST_UNCOMMITTED: u32 = 100;
@@ -21,7 +19,7 @@ pub fn may_propose(role: Role, leader: u8, last: u64, commit: u64) -> Result<(),
 {
     if !is_leader(role) {
         Err(Refusal::NotLeader(leader))
-    } else if MOST_INDEX <= last {
+    } else if LAST_NUMBER <= last {
         Err(Refusal::IndexEnd(last))
     } else if u64::from(MOST_UNCOMMITTED) <= last.saturating_sub(commit) {
         Err(Refusal::Overloaded(MOST_UNCOMMITTED))

@@ -11,7 +11,7 @@ use std::collections::BTreeMap;
 fn append<K: Ord + Drop, V: Drop>(map: &mut BTreeMap<K, V>, key: K, row: V) -> Result<(), NoMemory>
     ensures { OnOk result
         ((rest : List (K × V)) → IsRising K.cmp (map.old.entries ++ (key, row) ∷ rest) → map.new.entries
-            ≡ map.old.entries ++ (key, row) ∷ []) }
+        ≡ map.old.entries ++ (key, row) ∷ []) }
 {
     map.insert(key, row)?;
     Ok(())

@@ -1,9 +1,10 @@
 -- The numbers of the rules.
-use Rattle.std.specs.Prelude.{ℕ, ◌-◌, ◌^◌}
+use Rattle.std.specs.Prelude.{ℕ}
+use Rattle.cp_base.specs.declared.limits.TheConstants.{LAST_NUMBER, MOST_CHUNK, MOST_ENTRIES, MOST_SNAPSHOT}
 
 -- the most that a term or an index may be
 abbrev pub most_index : ℕ
-most_index = 2 ^ 62
+most_index = LAST_NUMBER
 
 -- how long, in milliseconds, the first member waits for a leader, and how much longer than it each next one
 abbrev pub least_timeout : ℕ
@@ -18,17 +19,17 @@ beat_period = 1000
 
 -- the most entries, and the most bytes of entries, in one Append
 abbrev pub batch_entries : ℕ
-batch_entries = 100
+batch_entries = MOST_ENTRIES
 
 abbrev pub batch_bytes : ℕ
-batch_bytes = 32768
+batch_bytes = MOST_CHUNK
 
 -- the bytes of a chunk, and the most that a snapshot may have
 abbrev pub chunk_bytes : ℕ
-chunk_bytes = 32768
+chunk_bytes = MOST_CHUNK
 
 abbrev pub most_snapshot : ℕ
-most_snapshot = 2 ^ 26 - 64
+most_snapshot = MOST_SNAPSHOT
 
 -- so many entries that are not committed make a leader refuse another
 abbrev pub most_uncommitted : ℕ

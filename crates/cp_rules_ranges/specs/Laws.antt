@@ -1,6 +1,7 @@
 -- What a step writes is what a store takes, and what it sends has a spelling.
-use Rattle.std.specs.Prelude.{◌≡◌, ℕ, ◌^◌, ◌≤◌, length, List, Some, Contains, IsTrue}
+use Rattle.std.specs.Prelude.{◌≡◌, ℕ, ◌≤◌, length, List, Some, Contains, IsTrue}
 use Rattle.cp_base.specs.declared.identifier.GroupId.{GroupId}
+use Rattle.cp_base.specs.declared.limits.TheConstants.{BODY_LIMIT}
 use Rattle.cp_parts.specs.Parts.{part_grammar}
 use Rattle.cp_grammar.specs.Common as common
 use Rattle.cp_log_rules.specs.Persistent.{PersistentState, new_group}
@@ -55,7 +56,7 @@ pub record StepsGoOn : Type 0 where
 pub record IsTaken (group : GroupId) (s : DurableState) (x : Part) : Type 0 where
   pub legal : IsTrue (is_legal (part_of group x) s)
   pub fits : part_grammar.Fits (part_of group x)
-  pub room : length (part_grammar.spelling (part_of group x)) ≤ 2 ^ 26
+  pub room : length (part_grammar.spelling (part_of group x)) ≤ BODY_LIMIT
 
 -- In the second format, for a group that stands.
 abbrev pub PartsAreTaken : Type 0

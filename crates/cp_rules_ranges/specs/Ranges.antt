@@ -1,6 +1,7 @@
 -- The numbers that have spellings: of what a member stores and keeps, of what comes to it, and of what it writes and sends.
 use Rattle.std.specs.Prelude.{◌≡◌, ℕ, ◌+◌, ◌^◌, ◌-◌, ◌<◌, ◌≤◌, true, List, length, Option, Some, None, is_some}
 use Rattle.std.specs.List.{AllByRecursion}
+use Rattle.cp_base.specs.declared.limits.TheConstants.{MOST_ENTRY}
 use Rattle.cp_grammar.specs.Common as common
 use Rattle.cp_parts.specs.declared.log_entry.LogEntry.{LogEntry}
 use Rattle.cp_parts.specs.Heads.{head_of}
@@ -15,7 +16,7 @@ use Rattle.cp_rules.specs.Local.{Body, PreVote, PreVoteReply, Vote, VoteReply, A
 
 -- the most bytes of an entry
 abbrev pub most_entry : ℕ
-most_entry = 8192
+most_entry = MOST_ENTRY
 
 -- members have the numbers 1 to 9
 pub record IsMember (m : ℕ) : Type 0 where

@@ -1,7 +1,7 @@
 -- Tables of sessions.
 use Rattle.std.specs.Prelude.{ℕ, List}
 use Rattle.std.specs.Ordering.{nat_cmp}
-use Rattle.cp_group_state.specs.Sessions.{SessionRow}
+use Rattle.cp_group_state.specs.declared.rows.SessionRow.{SessionRow}
 use Rattle.cp_group_state.specs.Invariants.{IsRising, OneSession}
 
 -- rows that a table may have

@@ -21,10 +21,10 @@ fn append(
     requires { IsIndexed rows.old.entries numbers.old.entries }
     ensures rows { OnOk result
         ((rest : List (ℕ × SessionRow)) → IsTable (rows.old.entries ++ (number, row) ∷ rest) → rows.new.entries
-            ≡ rows.old.entries ++ (number, row) ∷ []) }
+        ≡ rows.old.entries ++ (number, row) ∷ []) }
     ensures indexed { OnOk result
         ((rest : List (ℕ × SessionRow)) → IsTable (rows.old.entries ++ (number, row) ∷ rest)
-            → IsIndexed rows.new.entries numbers.new.entries) }
+        → IsIndexed rows.new.entries numbers.new.entries) }
 {
     name(numbers, row.client, number)?;
     cp_rows::put_row(rows, number, row)?;

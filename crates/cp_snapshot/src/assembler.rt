@@ -1,16 +1,15 @@
 //! What a follower joins of the chunks of a snapshot.
-ghost use Rattle.std.specs.Prelude.{◌≡◌, ◌+◌, ◌≤◌, ◌-◌, ◌^◌, ◌++◌, [], length, drop, vec_len, Some, None, Ok, option_map, IfOk, OnOk, OnErr};
+ghost use Rattle.std.specs.Prelude.{◌≡◌, ◌+◌, ◌≤◌, ◌++◌, [], length, drop, vec_len, Some, None, Ok, option_map, IfOk, OnOk, OnErr};
+ghost use Rattle.cp_base.specs.declared.limits.TheConstants.{MOST_SNAPSHOT};
 ghost use Rattle.cp_rules.specs.Snapshots.{received_of};
 ghost use Rattle.cp_snapshot.specs.declared.assembler.Progress.TheVariants as progress;
 ghost use Rattle.cp_snapshot.specs.Decisions.{joined_to, progress_at, told, received_with, received_after, whole_in};
 
 use crate::joining::{Join, how_joined};
 use cp_base::NoMemory;
+use cp_base::limits::MOST_SNAPSHOT;
 use cp_message::Chunk;
 use std::alloc::Global;
-
-/// The most bytes that a snapshot may have: 2^26 - 64.
-const MOST_SNAPSHOT: usize = (1 << 26) - 64;
 
 /// How far a chunk brings its snapshot.
 #[derive(Clone, Copy, Debug, PartialEq, Eq)]
@@ -45,7 +44,7 @@ pub struct Assembler {
     from: usize,
     ghost within: { kept ≤ vec_len bytes },
     ghost begins: { from ≤ kept },
-    ghost bounded: { kept ≤ 2 ^ 26 - 64 },
+    ghost bounded: { kept ≤ MOST_SNAPSHOT },
 }
 
 impl Assembler {
@@ -121,7 +120,7 @@ impl Assembler {
 
     /// Takes bytes for all that is received.
     fn restart(&mut self, term: u64, index: u64, bytes: Vec<u8>)
-        requires { vec_len bytes ≤ 2 ^ 26 - 64 }
+        requires { vec_len bytes ≤ MOST_SNAPSHOT }
         ensures { received self.new ≡ Some (record { term = term; index = index; bytes = bytes.items }) }
     {
         self.from = 0;
@@ -134,10 +133,10 @@ impl Assembler {
     /// Takes bytes behind those received.
     fn extend(&mut self, term: u64, index: u64, bytes: &[u8]) -> Result<(), NoMemory>
         requires tidy { IsTidy self.old }
-        requires room { self.old.kept + length bytes.now ≤ 2 ^ 26 - 64 }
+        requires room { self.old.kept + length bytes.now ≤ MOST_SNAPSHOT }
         ensures kept { OnOk result (self.new.kept ≡ self.old.kept + length bytes.now) }
-        ensures ok { OnOk result (received self.new
-            ≡ Some (record { term = term; index = index; bytes = self.old.bytes.items ++ bytes.now })) }
+        ensures ok { OnOk result (received self.new ≡ Some
+            (record { term = term; index = index; bytes = self.old.bytes.items ++ bytes.now })) }
         ensures err { OnErr result (received self.new ≡ received self.old) }
     {
         match self.bytes.extend_from_slice(bytes) {
@@ -155,13 +154,12 @@ impl Assembler {
         requires { IsTidy self.old }
         ensures progress { IfOk result (λ p. p ≡ told (joined_to chunk.now.last chunk.now.bytes)) }
         ensures received { OnOk result (received self.new
-            ≡ received_with chunk.now.term chunk.now.index (received self.old) (joined_to chunk.now.last
-            chunk.now.bytes)) }
+            ≡ received_with chunk.now.term chunk.now.index (received self.old) (joined_to chunk.now.last chunk.now.bytes)) }
         ensures whole { result ≡ Ok progress.Whole → held self.new ≡ chunk.now.bytes }
         ensures err { OnErr result (received self.new ≡ received self.old) }
     {
         let length = chunk.bytes.len();
-        if MOST_SNAPSHOT < length {
+        if length > MOST_SNAPSHOT as usize {
             return Ok(Progress::TooLong);
         }
         if chunk.last {
@@ -182,12 +180,12 @@ impl Assembler {
         requires { IsTidy self.old }
         ensures progress { IfOk result (λ p. p ≡ told (joined_to chunk.now.last (self.old.bytes.items ++ chunk.now.bytes))) }
         ensures received { OnOk result (received self.new
-            ≡ received_with chunk.now.term chunk.now.index (received self.old) (joined_to chunk.now.last
-            (self.old.bytes.items ++ chunk.now.bytes))) }
+            ≡ received_with chunk.now.term chunk.now.index (received self.old)
+            (joined_to chunk.now.last (self.old.bytes.items ++ chunk.now.bytes))) }
         ensures whole { result ≡ Ok progress.Whole → held self.new ≡ self.old.bytes.items ++ chunk.now.bytes }
         ensures err { OnErr result (received self.new ≡ received self.old) }
     {
-        if MOST_SNAPSHOT - self.kept < chunk.bytes.len() {
+        if MOST_SNAPSHOT as usize - self.kept < chunk.bytes.len() {
             return Ok(Progress::TooLong);
         }
         if chunk.last {
@@ -231,11 +229,11 @@ impl Assembler {
 
 /// The bytes before a chunk with those of the chunk, where it is the last and they are not too long.
 fn joined(alloc: Global, before: &[u8], chunk: &Chunk) -> Result<Option<Vec<u8>>, NoMemory>
-    requires { length before.now ≤ 2 ^ 26 - 64 }
+    requires { length before.now ≤ MOST_SNAPSHOT }
     ensures { IfOk result (λ whole. option_map (λ bytes. bytes.items) whole
         ≡ whole_in (joined_to chunk.now.last (before.now ++ chunk.now.bytes))) }
 {
-    if !chunk.last || MOST_SNAPSHOT - before.len() < chunk.bytes.len() {
+    if !chunk.last || MOST_SNAPSHOT as usize - before.len() < chunk.bytes.len() {
         return Ok(None);
     }
     let mut whole = Vec::new(alloc);

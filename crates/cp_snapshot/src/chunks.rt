@@ -5,13 +5,8 @@ ghost use Rattle.cp_rules.specs.Sending.{chunk, is_last_chunk};
 ghost use Rattle.cp_rules.specs.Snapshots.{from_start};
 ghost use Rattle.cp_snapshot.specs.Decisions.{goes_on};
 
+use cp_base::limits::{MOST_CHUNK, MOST_SNAPSHOT};
 use cp_rules::Peer;
-
-/// The most bytes of a chunk.
-const CHUNK_BYTES: usize = 32_768;
-
-/// The most bytes that a snapshot may have: 2^26 - 64.
-const MOST_SNAPSHOT: usize = (1 << 26) - 64;
 
 /// The bytes from an offset on.
 fn from_offset(bytes: &[u8], offset: u32) -> &[u8]
@@ -25,10 +20,10 @@ fn from_offset(bytes: &[u8], offset: u32) -> &[u8]
 fn front(bytes: &[u8]) -> &[u8]
     ensures { result.now ≡ take chunk_bytes bytes.now }
 {
-    if bytes.len() <= CHUNK_BYTES {
+    if bytes.len() <= MOST_CHUNK as usize {
         bytes
     } else {
-        &bytes[..CHUNK_BYTES]
+        &bytes[..MOST_CHUNK as usize]
     }
 }
 
@@ -39,14 +34,14 @@ pub fn chunk(bytes: &[u8], offset: u32) -> (&[u8], bool)
     ensures last { result.1 ≡ is_last_chunk bytes.now offset }
 {
     let rest = from_offset(bytes, offset);
-    (front(rest), rest.len() <= CHUNK_BYTES)
+    (front(rest), rest.len() <= MOST_CHUNK as usize)
 }
 
 /// Whether a snapshot of so many bytes may be written.
 pub fn fits(length: usize) -> bool
     ensures { result ≡ nat_le length most_snapshot }
 {
-    length <= MOST_SNAPSHOT
+    length <= MOST_SNAPSHOT as usize
 }
 
 /// What a leader keeps of a member that has received so many bytes of the snapshot of an index, and is sent the chunk

@@ -1,12 +1,14 @@
 //! Steps that ask a store.
-use crate::words::{tell, tell_bytes, tell_number, tell_numbers, tell_whether};
+use crate::end::CaseEnd;
+use crate::verb::Verb;
+use crate::words::{number_at, tell, tell_bytes, tell_number, tell_numbers, tell_whether};
 use cp_base::{GroupId, NoMemory};
 use cp_disk::Disk;
 use cp_log::Store;
 use cp_parts::Config;
 
 /// Tells term, vote, base and last of a group, or that it does not stand.
-pub fn tell_group<D: Disk>(
+fn tell_group<D: Disk>(
     store: &Store<D>,
     group: GroupId,
     out: &mut Vec<u8>,
@@ -24,7 +26,7 @@ pub fn tell_group<D: Disk>(
 }
 
 /// Tells the term at an index.
-pub fn tell_term<D: Disk>(
+fn tell_term<D: Disk>(
     store: &Store<D>,
     group: GroupId,
     index: u64,
@@ -47,7 +49,7 @@ fn tell_found(found: Option<&[u8]>, out: &mut Vec<u8>) -> Result<(), NoMemory> {
 }
 
 /// Tells the bytes of the entry at an index.
-pub fn tell_entry<D: Disk>(
+fn tell_entry<D: Disk>(
     store: &Store<D>,
     group: GroupId,
     index: u64,
@@ -60,7 +62,7 @@ pub fn tell_entry<D: Disk>(
 }
 
 /// Tells the bytes of the snapshot.
-pub fn tell_snapshot<D: Disk>(
+fn tell_snapshot<D: Disk>(
     store: &Store<D>,
     group: GroupId,
     out: &mut Vec<u8>,
@@ -81,7 +83,7 @@ fn tell_members(config: &Config, out: &mut Vec<u8>) -> Result<(), NoMemory> {
 }
 
 /// Tells the index and the members of the configuration in force at an index.
-pub fn tell_config<D: Disk>(
+fn tell_config<D: Disk>(
     store: &Store<D>,
     group: GroupId,
     index: u64,
@@ -107,10 +109,29 @@ pub fn tell_groups<D: Disk>(store: &Store<D>, out: &mut Vec<u8>) -> Result<(), N
 }
 
 /// Tells whether a group has ended.
-pub fn tell_ended<D: Disk>(
+fn tell_ended<D: Disk>(
     store: &Store<D>,
     group: GroupId,
     out: &mut Vec<u8>,
 ) -> Result<(), NoMemory> {
     tell_whether(store.ended(group), out)
+}
+
+/// Asks for a group of a store, and tells the answer.
+pub fn ask_group<D: Disk>(
+    store: &Store<D>,
+    group: GroupId,
+    verb: Verb,
+    words: &[String],
+    out: &mut Vec<u8>,
+) -> Result<(), CaseEnd> {
+    match verb {
+        Verb::Group => Ok(tell_group(store, group, out)?),
+        Verb::Term => Ok(tell_term(store, group, number_at(words, 3)?, out)?),
+        Verb::Entry => Ok(tell_entry(store, group, number_at(words, 3)?, out)?),
+        Verb::Config => Ok(tell_config(store, group, number_at(words, 3)?, out)?),
+        Verb::Snapshot => Ok(tell_snapshot(store, group, out)?),
+        Verb::Ended => Ok(tell_ended(store, group, out)?),
+        _ => Err(CaseEnd::BadInput),
+    }
 }

@@ -1,15 +1,13 @@
 //! Cases, and what is told of them.
-use crate::asking::{
-    tell_config, tell_ended, tell_entry, tell_group, tell_groups, tell_snapshot, tell_term,
-};
+use crate::asking::{ask_group, tell_groups};
 use crate::disk::{CaseDisk, new_disk};
 use crate::end::CaseEnd;
 use crate::journal::{self, CaseJournal};
-use crate::step::{DiskStep, JournalStep, Step, StoreStep, step_of};
 use crate::store::{self, CaseStore};
-use crate::streams::Streams;
-use crate::words::{tell, tell_number, words_of};
-use cp_base::{GroupId, NoMemory};
+use crate::streams::{Streams, read_drip, read_reader, write_writer};
+use crate::verb::{Subject, Verb, subject_of, verb_of};
+use crate::words::{bytes_from, number_at, tell, tell_number, word_at, words_of};
+use cp_base::GroupId;
 use cp_disk::MemoryDisk;
 use cp_io::{Sink, Source, read_all, write_all};
 use cp_log::Store;
@@ -38,16 +36,23 @@ fn of_store(place: store::Place) -> Held {
     }
 }
 
-fn on_disk(alloc: Global, held: Held, step: DiskStep, out: &mut Vec<u8>) -> Result<Held, CaseEnd> {
-    match (held, step) {
-        (Held::Nothing, DiskStep::New(bytes, fails)) => {
-            let disk = new_disk(alloc, &bytes, &fails)?;
+/// A step with the disk, which stands alone.
+fn on_disk(
+    alloc: Global,
+    held: Held,
+    verb: Verb,
+    words: &[String],
+    out: &mut Vec<u8>,
+) -> Result<Held, CaseEnd> {
+    match held {
+        Held::Nothing => {
+            let disk = new_disk(alloc, words)?;
             tell(b"ok", out)?;
             Ok(Held::Disk(disk))
         }
-        (Held::Disk(disk), step) => {
+        Held::Disk(disk) => {
             let mut disk = disk;
-            disk.go(alloc, step, out)?;
+            disk.step(alloc, verb, words, out)?;
             Ok(Held::Disk(disk))
         }
         _ => Err(CaseEnd::BadInput),
@@ -57,103 +62,134 @@ fn on_disk(alloc: Global, held: Held, step: DiskStep, out: &mut Vec<u8>) -> Resu
 fn on_open_journal(
     alloc: Global,
     journal: CaseJournal,
-    step: JournalStep,
+    verb: Verb,
+    words: &[String],
     out: &mut Vec<u8>,
 ) -> Result<Held, CaseEnd> {
     let mut journal = journal;
-    match step {
-        JournalStep::Open => Err(CaseEnd::BadInput),
-        JournalStep::Append(body) => Ok(of_journal(journal.append(alloc, &body, out)?)),
-        JournalStep::Bytes => {
+    match verb {
+        Verb::Append => {
+            let body = bytes_from(alloc, words, 2)?;
+            Ok(of_journal(journal.append(alloc, &body, out)?))
+        }
+        Verb::Bytes => {
             tell_number(journal.bytes(), out)?;
             Ok(Held::Journal(journal))
         }
-        JournalStep::Stop(calls) => {
-            journal.stop_after(calls);
+        Verb::Stop => {
+            journal.stop_after(number_at(words, 2)?);
             tell(b"ok", out)?;
             Ok(Held::Journal(journal))
         }
-        JournalStep::Close => {
+        Verb::Close => {
             tell(b"ok", out)?;
             Ok(Held::Disk(journal.close()))
-        }
-    }
-}
-
-fn on_journal(
-    alloc: Global,
-    held: Held,
-    step: JournalStep,
-    out: &mut Vec<u8>,
-) -> Result<Held, CaseEnd> {
-    match (held, step) {
-        (Held::Disk(disk), JournalStep::Open) => Ok(of_journal(journal::open(alloc, disk, out)?)),
-        (Held::Journal(journal), step) => on_open_journal(alloc, journal, step, out),
-        (Held::Disk(disk), _) => {
-            tell(b"no journal", out)?;
-            Ok(Held::Disk(disk))
         }
         _ => Err(CaseEnd::BadInput),
     }
 }
 
-/// Asks a store, and tells the answer.
-fn ask(store: &Store<MemoryDisk>, step: StoreStep, out: &mut Vec<u8>) -> Result<(), CaseEnd> {
-    match step {
-        StoreStep::Restart => tell_number(store.restart(), out)?,
-        StoreStep::Group(group) => tell_group(store, GroupId(group), out)?,
-        StoreStep::Term(group, index) => tell_term(store, GroupId(group), index, out)?,
-        StoreStep::Entry(group, index) => tell_entry(store, GroupId(group), index, out)?,
-        StoreStep::Config(group, index) => tell_config(store, GroupId(group), index, out)?,
-        StoreStep::Snapshot(group) => tell_snapshot(store, GroupId(group), out)?,
-        StoreStep::Groups => tell_groups(store, out)?,
-        StoreStep::Ended(group) => tell_ended(store, GroupId(group), out)?,
-        StoreStep::Bytes => tell_number(store.journal_bytes(), out)?,
-        _ => return Err(CaseEnd::BadInput),
+/// A step with a journal over the disk.
+fn on_journal(
+    alloc: Global,
+    held: Held,
+    verb: Verb,
+    words: &[String],
+    out: &mut Vec<u8>,
+) -> Result<Held, CaseEnd> {
+    match held {
+        Held::Disk(disk) => {
+            if let Verb::Open = verb {
+                return Ok(of_journal(journal::open(alloc, disk, out)?));
+            }
+            tell(b"no journal", out)?;
+            Ok(Held::Disk(disk))
+        }
+        Held::Journal(journal) => on_open_journal(alloc, journal, verb, words, out),
+        _ => Err(CaseEnd::BadInput),
     }
-    Ok(())
+}
+
+/// Asks a store, and tells the answer.
+fn ask(
+    store: &Store<MemoryDisk>,
+    verb: Verb,
+    words: &[String],
+    out: &mut Vec<u8>,
+) -> Result<(), CaseEnd> {
+    match verb {
+        Verb::Restart => Ok(tell_number(store.restart(), out)?),
+        Verb::Groups => Ok(tell_groups(store, out)?),
+        Verb::Bytes => Ok(tell_number(store.journal_bytes(), out)?),
+        _ => ask_group(store, GroupId(number_at(words, 2)?), verb, words, out),
+    }
 }
 
 fn on_open_store(
     alloc: Global,
     store: CaseStore,
-    step: StoreStep,
+    verb: Verb,
+    words: &[String],
     out: &mut Vec<u8>,
 ) -> Result<Held, CaseEnd> {
     let mut store = store;
-    match step {
-        StoreStep::Write(body) => Ok(of_store(store.write(alloc, &body, out)?)),
-        StoreStep::Stop(calls) => {
-            store.stop_after(calls);
+    match verb {
+        Verb::Write => {
+            let body = bytes_from(alloc, words, 2)?;
+            Ok(of_store(store.write(alloc, &body, out)?))
+        }
+        Verb::Stop => {
+            store.stop_after(number_at(words, 2)?);
             tell(b"ok", out)?;
             Ok(Held::Store(store))
         }
-        StoreStep::Close => {
+        Verb::Close => {
             tell(b"ok", out)?;
             Ok(Held::Disk(store.close()))
         }
         other => {
-            ask(&store.store, other, out)?;
+            ask(&store.store, other, words, out)?;
             Ok(Held::Store(store))
         }
     }
 }
 
+/// A step with a store over the disk.
 fn on_store(
     alloc: Global,
     held: Held,
-    step: StoreStep,
+    verb: Verb,
+    words: &[String],
     out: &mut Vec<u8>,
 ) -> Result<Held, CaseEnd> {
-    match (held, step) {
-        (Held::Disk(disk), StoreStep::Open(managed, size)) => {
-            Ok(of_store(store::open(alloc, disk, managed, size, out)?))
-        }
-        (Held::Store(store), step) => on_open_store(alloc, store, step, out),
-        (Held::Disk(disk), _) => {
+    match held {
+        Held::Disk(disk) => {
+            if let Verb::Open = verb {
+                let size = number_at(words, 2)?;
+                let place = store::open(alloc, disk, words.len() > 3, size, out)?;
+                return Ok(of_store(place));
+            }
             tell(b"no store", out)?;
             Ok(Held::Disk(disk))
         }
+        Held::Store(store) => on_open_store(alloc, store, verb, words, out),
+        _ => Err(CaseEnd::BadInput),
+    }
+}
+
+/// A step with a disk, or with what stands over it.
+fn on_held(
+    alloc: Global,
+    held: Held,
+    subject: Subject,
+    verb: Verb,
+    words: &[String],
+    out: &mut Vec<u8>,
+) -> Result<Held, CaseEnd> {
+    match subject {
+        Subject::Disk => on_disk(alloc, held, verb, words, out),
+        Subject::Journal => on_journal(alloc, held, verb, words, out),
+        Subject::Store => on_store(alloc, held, verb, words, out),
         _ => Err(CaseEnd::BadInput),
     }
 }
@@ -163,18 +199,24 @@ fn go(
     alloc: Global,
     streams: &mut Streams,
     held: Held,
-    step: Step,
+    words: &[String],
     out: &mut Vec<u8>,
 ) -> Result<Held, CaseEnd> {
-    match step {
-        Step::Stream(step) => {
-            streams.go(alloc, step, out)?;
-            Ok(held)
-        }
-        Step::Disk(step) => on_disk(alloc, held, step, out),
-        Step::Journal(step) => on_journal(alloc, held, step, out),
-        Step::Store(step) => on_store(alloc, held, step, out),
+    let Some(subject) = subject_of(word_at(words, 0)?) else {
+        return Err(CaseEnd::BadInput);
+    };
+    let Some(verb) = verb_of(word_at(words, 1)?) else {
+        return Err(CaseEnd::BadInput);
+    };
+    match subject {
+        Subject::Source => streams.source_step(alloc, verb, words, out)?,
+        Subject::Sink => streams.sink_step(alloc, verb, words, out)?,
+        Subject::Drip => read_drip(alloc, words, out)?,
+        Subject::Reader => read_reader(alloc, words, out)?,
+        Subject::Writer => write_writer(alloc, words, out)?,
+        subject => return on_held(alloc, held, subject, verb, words, out),
     }
+    Ok(held)
 }
 
 /// Does the steps of a case, one after another, and tells on one line what came out of each.
@@ -186,8 +228,8 @@ fn tell_case(alloc: Global, case: &str, out: &mut Vec<u8>) -> Result<(), CaseEnd
         if !is_first {
             tell(b"; ", out)?;
         }
-        let step = step_of(alloc, &words_of(alloc, step)?)?;
-        held = go(alloc, &mut streams, held, step, out)?;
+        let words = words_of(alloc, step)?;
+        held = go(alloc, &mut streams, held, &words, out)?;
         is_first = false;
     }
     tell(b"\n", out)?;

@@ -3,8 +3,10 @@ ghost use Rattle.std.specs.Prelude.{◌≡◌, ◌≤◌, ◌<◌, ◌^◌};
 ghost use Rattle.cp_store_cases.specs.Orders.{orders_of};
 
 use crate::end::CaseEnd;
-use crate::step::DiskStep;
-use crate::words::{tell, tell_bytes, tell_number, tell_whether};
+use crate::verb::Verb;
+use crate::words::{
+    bytes_at, number_at, numbers_from, tell, tell_bytes, tell_number, tell_whether,
+};
 use cp_base::NoMemory;
 use cp_disk::{CrashDisk, Disk, Failed, Fault, MemoryDisk};
 use std::alloc::Global;
@@ -21,7 +23,7 @@ pub struct CaseDisk {
 }
 
 /// What a step with a disk found.
-#[derive(Debug, Drop)]
+#[derive(Drop)]
 enum Found {
     Done,
     Number(u64),
@@ -104,10 +106,38 @@ fn sync(disk: &mut MemoryDisk) -> Result<Found, Fault>
 }
 
 /// A new disk.
-pub fn new_disk(alloc: Global, bytes: &[u8], fails: &[u64]) -> Result<CaseDisk, CaseEnd> {
-    match MemoryDisk::new(alloc, bytes, fails) {
+pub fn new_disk(alloc: Global, words: &[String]) -> Result<CaseDisk, CaseEnd> {
+    let bytes = bytes_at(alloc, words, 2)?;
+    let fails = numbers_from(alloc, words, 3)?;
+    match MemoryDisk::new(alloc, &bytes, &fails) {
         Ok(disk) => Ok(CaseDisk { disk, orders: 0 }),
         Err(_) => Err(CaseEnd::NoMemory),
+    }
+}
+
+/// Does a call of a disk.
+fn called(
+    alloc: Global,
+    disk: &mut MemoryDisk,
+    verb: Verb,
+    words: &[String],
+) -> Result<Result<Found, Fault>, CaseEnd>
+    ensures { orders_of disk.new ≡ orders_of disk.old }
+{
+    match verb {
+        Verb::Len => Ok(len_of(disk)),
+        Verb::Bytes => Ok(all_of(alloc, disk)),
+        Verb::Write => {
+            let at = number_at(words, 2)?;
+            let bytes = bytes_at(alloc, words, 3)?;
+            Ok(write(disk, at, &bytes))
+        }
+        Verb::Cut => {
+            let length = number_at(words, 2)?;
+            Ok(cut(disk, length))
+        }
+        Verb::Sync => Ok(sync(disk)),
+        _ => Err(CaseEnd::BadInput),
     }
 }
 
@@ -126,32 +156,30 @@ impl CaseDisk {
         }
     }
 
-    fn found(&mut self, alloc: Global, step: DiskStep) -> Result<Found, Fault> {
-        match step {
-            DiskStep::Len => len_of(&mut self.disk),
-            DiskStep::Bytes => all_of(alloc, &mut self.disk),
-            DiskStep::Write(at, bytes) => write(&mut self.disk, at, &bytes),
-            DiskStep::Cut(length) => cut(&mut self.disk, length),
-            DiskStep::Sync => sync(&mut self.disk),
-            _ => Ok(Found::Done),
-        }
-    }
-
     /// Does a step, and tells what came out.
-    pub fn go(&mut self, alloc: Global, step: DiskStep, out: &mut Vec<u8>) -> Result<(), CaseEnd> {
-        match step {
-            DiskStep::New(_, _) => return Err(CaseEnd::BadInput),
-            DiskStep::Crash(choice) => {
+    pub fn step(
+        &mut self,
+        alloc: Global,
+        verb: Verb,
+        words: &[String],
+        out: &mut Vec<u8>,
+    ) -> Result<(), CaseEnd> {
+        match verb {
+            Verb::Crash => {
+                let choice = number_at(words, 2)?;
                 self.crash(choice);
-                tell(b"ok", out)?;
+                Ok(tell(b"ok", out)?)
             }
-            DiskStep::Stop(calls) => {
+            Verb::Stop => {
+                let calls = number_at(words, 2)?;
                 self.stop_after(calls);
-                tell(b"ok", out)?;
+                Ok(tell(b"ok", out)?)
             }
-            DiskStep::Struck => tell_whether(self.disk.struck(), out)?,
-            other => tell_found(self.found(alloc, other), out)?,
+            Verb::Struck => Ok(tell_whether(self.disk.struck(), out)?),
+            other => {
+                let found = called(alloc, &mut self.disk, other, words)?;
+                Ok(tell_found(found, out)?)
+            }
         }
-        Ok(())
     }
 }

@@ -4,7 +4,7 @@ use cp_io::{Fault, ReadEnd};
 use std::alloc::{AllocError, AllocFailed};
 
 /// Why the cases were not told to their end.
-#[derive(Clone, Copy, Debug, PartialEq, Eq)]
+#[derive(Clone, Copy)]
 pub enum CaseEnd {
     /// A line is no case, or the input is too long or cannot be read.
     BadInput,

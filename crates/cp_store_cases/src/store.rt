@@ -32,7 +32,7 @@ pub enum Place {
 }
 
 /// Why a part was not written.
-#[derive(Debug, Drop)]
+#[derive(Drop)]
 enum Refusal {
     NoPart(u64),
     NotLegal,

@@ -2,8 +2,8 @@
 ghost use Rattle.std.specs.Prelude.{◌≤◌};
 
 use crate::end::CaseEnd;
-use crate::step::StreamStep;
-use crate::words::{tell, tell_bytes, tell_number};
+use crate::verb::Verb;
+use crate::words::{bytes_at, number_at, numbers_from, tell, tell_bytes, tell_number};
 use cp_base::NoMemory;
 use cp_io::{
     Failed, Fault, MemorySink, MemorySource, ReadEnd, Reading, Sink, Source, Writing, read_all,
@@ -97,42 +97,77 @@ fn tell_write<K: Sink>(sink: &mut K, bytes: &[u8], out: &mut Vec<u8>) -> Result<
     }
 }
 
-/// Writes to std's writer into memory, the first bytes whole and the others once.
-fn tell_writer(
-    alloc: Global,
-    whole: &[u8],
-    once: &[u8],
-    out: &mut Vec<u8>,
-) -> Result<(), NoMemory> {
-    let mut sink = Writing::new(Vec::new(alloc));
-    tell_written(&mut sink, whole, out)?;
-    tell(b" ", out)?;
-    tell_write(&mut sink, once, out)
-}
-
-/// Reads std's reader to its end.
-fn tell_reader(alloc: Global, bytes: &[u8], out: &mut Vec<u8>) -> Result<(), NoMemory> {
-    let mut reader: &[u8] = bytes;
-    tell_all(alloc, &mut Reading::new(&mut reader), out)
-}
-
 /// A new source.
-fn new_source(alloc: Global, bytes: &[u8], fails: &[u64]) -> Result<MemorySource, CaseEnd> {
-    match MemorySource::new(alloc, bytes, fails) {
+fn new_source(alloc: Global, words: &[String]) -> Result<MemorySource, CaseEnd> {
+    let bytes = bytes_at(alloc, words, 2)?;
+    let fails = numbers_from(alloc, words, 3)?;
+    match MemorySource::new(alloc, &bytes, &fails) {
         Ok(source) => Ok(source),
         Err(_) => Err(CaseEnd::NoMemory),
     }
 }
 
 /// A new sink, which takes at least one byte at a time.
-fn new_sink(alloc: Global, most: u64, fails: &[u64]) -> Result<MemorySink, CaseEnd> {
+fn new_sink(alloc: Global, words: &[String]) -> Result<MemorySink, CaseEnd> {
+    let most = number_at(words, 2)?;
+    let fails = numbers_from(alloc, words, 3)?;
     if most == 0 {
         return Err(CaseEnd::BadInput);
     }
-    match MemorySink::new(alloc, most as usize, fails) {
+    match MemorySink::new(alloc, most as usize, &fails) {
         Ok(sink) => Ok(sink),
         Err(_) => Err(CaseEnd::NoMemory),
     }
+}
+
+fn use_source(
+    alloc: Global,
+    source: &mut MemorySource,
+    verb: Verb,
+    words: &[String],
+    out: &mut Vec<u8>,
+) -> Result<(), CaseEnd> {
+    match verb {
+        Verb::Read => tell_read(alloc, source, number_at(words, 2)?, out),
+        Verb::All => Ok(tell_all(alloc, source, out)?),
+        _ => Err(CaseEnd::BadInput),
+    }
+}
+
+fn use_sink(
+    alloc: Global,
+    sink: &mut MemorySink,
+    verb: Verb,
+    words: &[String],
+    out: &mut Vec<u8>,
+) -> Result<(), CaseEnd> {
+    match verb {
+        Verb::Write => Ok(tell_write(sink, &bytes_at(alloc, words, 2)?, out)?),
+        Verb::All => Ok(tell_written(sink, &bytes_at(alloc, words, 2)?, out)?),
+        Verb::Bytes => Ok(tell_bytes(sink.bytes(), out)?),
+        _ => Err(CaseEnd::BadInput),
+    }
+}
+
+/// Reads a source to its end that gives one byte at a time.
+pub fn read_drip(alloc: Global, words: &[String], out: &mut Vec<u8>) -> Result<(), CaseEnd> {
+    let bytes = bytes_at(alloc, words, 2)?;
+    Ok(tell_all(alloc, &mut Drip { bytes, at: 0 }, out)?)
+}
+
+/// Reads std's reader to its end.
+pub fn read_reader(alloc: Global, words: &[String], out: &mut Vec<u8>) -> Result<(), CaseEnd> {
+    let bytes = bytes_at(alloc, words, 2)?;
+    let mut reader: &[u8] = &bytes;
+    Ok(tell_all(alloc, &mut Reading::new(&mut reader), out)?)
+}
+
+/// Writes to std's writer into memory, the first bytes whole and the others once.
+pub fn write_writer(alloc: Global, words: &[String], out: &mut Vec<u8>) -> Result<(), CaseEnd> {
+    let mut sink = Writing::new(Vec::new(alloc));
+    tell_written(&mut sink, &bytes_at(alloc, words, 2)?, out)?;
+    tell(b" ", out)?;
+    Ok(tell_write(&mut sink, &bytes_at(alloc, words, 3)?, out)?)
 }
 
 impl Streams {
@@ -144,45 +179,39 @@ impl Streams {
         }
     }
 
-    fn source(&mut self) -> Result<&mut MemorySource, CaseEnd> {
-        match &mut self.source {
-            Some(source) => Ok(source),
-            None => Err(CaseEnd::BadInput),
-        }
-    }
-
-    fn sink(&mut self) -> Result<&mut MemorySink, CaseEnd> {
-        match &mut self.sink {
-            Some(sink) => Ok(sink),
-            None => Err(CaseEnd::BadInput),
-        }
-    }
-
-    /// Does a step, and tells what came out.
-    pub fn go(
+    /// A step with the source.
+    pub fn source_step(
         &mut self,
         alloc: Global,
-        step: StreamStep,
+        verb: Verb,
+        words: &[String],
         out: &mut Vec<u8>,
     ) -> Result<(), CaseEnd> {
-        match step {
-            StreamStep::Source(bytes, fails) => {
-                self.source = Some(new_source(alloc, &bytes, &fails)?);
-                tell(b"ok", out)?;
-            }
-            StreamStep::Read(count) => tell_read(alloc, self.source()?, count, out)?,
-            StreamStep::ReadAll => tell_all(alloc, self.source()?, out)?,
-            StreamStep::Drip(bytes) => tell_all(alloc, &mut Drip { bytes, at: 0 }, out)?,
-            StreamStep::Reader(bytes) => tell_reader(alloc, &bytes, out)?,
-            StreamStep::Sink(most, fails) => {
-                self.sink = Some(new_sink(alloc, most, &fails)?);
-                tell(b"ok", out)?;
-            }
-            StreamStep::Write(bytes) => tell_write(self.sink()?, &bytes, out)?,
-            StreamStep::WriteAll(bytes) => tell_written(self.sink()?, &bytes, out)?,
-            StreamStep::Taken => tell_bytes(self.sink()?.bytes(), out)?,
-            StreamStep::Writer(whole, once) => tell_writer(alloc, &whole, &once, out)?,
+        if let Verb::New = verb {
+            self.source = Some(new_source(alloc, words)?);
+            return Ok(tell(b"ok", out)?);
         }
-        Ok(())
+        match &mut self.source {
+            Some(source) => use_source(alloc, source, verb, words, out),
+            None => Err(CaseEnd::BadInput),
+        }
+    }
+
+    /// A step with the sink.
+    pub fn sink_step(
+        &mut self,
+        alloc: Global,
+        verb: Verb,
+        words: &[String],
+        out: &mut Vec<u8>,
+    ) -> Result<(), CaseEnd> {
+        if let Verb::New = verb {
+            self.sink = Some(new_sink(alloc, words)?);
+            return Ok(tell(b"ok", out)?);
+        }
+        match &mut self.sink {
+            Some(sink) => use_sink(alloc, sink, verb, words, out),
+            None => Err(CaseEnd::BadInput),
+        }
     }
 }

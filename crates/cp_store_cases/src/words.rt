@@ -13,24 +13,37 @@ pub fn words_of(alloc: Global, step: &str) -> Result<Vec<String>, CaseEnd> {
 }
 
 /// The number that a word spells.
-pub fn number_of(word: &str) -> Result<u64, CaseEnd> {
+fn number_of(word: &str) -> Result<u64, CaseEnd> {
     match read_decimal(word.as_bytes()) {
         Some(number) => Ok(number),
         None => Err(CaseEnd::BadInput),
     }
 }
 
-/// The numbers that words spell.
-pub fn numbers_of(alloc: Global, words: &[String]) -> Result<Vec<u64>, CaseEnd> {
+/// The word at a place.
+pub fn word_at(words: &[String], place: usize) -> Result<&str, CaseEnd> {
+    match words.get(place) {
+        Some(word) => Ok(word.as_str()),
+        None => Err(CaseEnd::BadInput),
+    }
+}
+
+/// The number at a place.
+pub fn number_at(words: &[String], place: usize) -> Result<u64, CaseEnd> {
+    number_of(word_at(words, place)?)
+}
+
+/// The numbers from a place on.
+pub fn numbers_from(alloc: Global, words: &[String], place: usize) -> Result<Vec<u64>, CaseEnd> {
     let mut numbers = Vec::new(alloc);
-    for word in words {
+    for word in words.iter().skip(place) {
         numbers.push(number_of(word)?)?;
     }
     Ok(numbers)
 }
 
 /// The bytes whose hexadecimal digits a word has; `-` has none.
-pub fn bytes_of(alloc: Global, word: &str) -> Result<Vec<u8>, CaseEnd> {
+fn bytes_of(alloc: Global, word: &str) -> Result<Vec<u8>, CaseEnd> {
     if word == "-" {
         return Ok(Vec::new(alloc));
     }
@@ -40,10 +53,15 @@ pub fn bytes_of(alloc: Global, word: &str) -> Result<Vec<u8>, CaseEnd> {
     }
 }
 
-/// The bytes whose digits words have, one behind another.
-pub fn joined_bytes(alloc: Global, words: &[String]) -> Result<Vec<u8>, CaseEnd> {
+/// The bytes at a place.
+pub fn bytes_at(alloc: Global, words: &[String], place: usize) -> Result<Vec<u8>, CaseEnd> {
+    bytes_of(alloc, word_at(words, place)?)
+}
+
+/// The bytes from a place on, one behind another.
+pub fn bytes_from(alloc: Global, words: &[String], place: usize) -> Result<Vec<u8>, CaseEnd> {
     let mut bytes = Vec::new(alloc);
-    for word in words {
+    for word in words.iter().skip(place) {
         bytes.extend_from_slice(&bytes_of(alloc, word)?)?;
     }
     Ok(bytes)

@@ -7,7 +7,7 @@ use crate::words::{
 };
 use cp_base::{GroupId, NoMemory};
 use cp_message::Chunk;
-use cp_snapshot::{Assembler, Progress, goes_on, writes_own};
+use cp_snapshot::{Assembler, Progress, chunk, from_start, goes_on, writes_own};
 use std::alloc::Global;
 
 /// Appends how far a piece brought its snapshot; of a whole one its bytes.
@@ -29,6 +29,25 @@ fn show_progress(
     }
 }
 
+/// A piece of the snapshot of an index, from the leader of term 1.
+fn piece_of(alloc: Global, words: &[&str]) -> Result<Chunk, RowsEnd> {
+    let [at, offset, last, piece] = words else {
+        return Err(RowsEnd::BadInput);
+    };
+    let index = index(at)?;
+    let offset = short_number(offset)?;
+    let last = flag(last)?;
+    let bytes = bytes(alloc, piece)?;
+    Ok(Chunk {
+        group: GroupId(1),
+        term: 1,
+        index,
+        offset,
+        last,
+        bytes,
+    })
+}
+
 /// `chunk INDEX OFFSET LAST BYTES`: how far a piece from the leader of term 1 brings the snapshot of an index.
 pub fn chunk_row(
     alloc: Global,
@@ -36,19 +55,47 @@ pub fn chunk_row(
     words: &[&str],
     out: &mut Vec<u8>,
 ) -> Result<(), RowsEnd> {
-    let [at, offset, last, piece] = words else {
+    let piece = piece_of(alloc, words)?;
+    let progress = joined.take(&piece)?;
+    Ok(show_progress(progress, joined, out)?)
+}
+
+/// `would INDEX OFFSET LAST BYTES`: the whole bytes of the snapshot that such a piece would make whole, or `none`.
+pub fn would_row(
+    alloc: Global,
+    joined: &Assembler,
+    words: &[&str],
+    out: &mut Vec<u8>,
+) -> Result<(), RowsEnd> {
+    let piece = piece_of(alloc, words)?;
+    match joined.whole_with(alloc, &piece)? {
+        Some(whole) => show_bytes(&whole, out)?,
+        None => show_word("none", out)?,
+    }
+    Ok(())
+}
+
+/// `piece BYTES OFFSET`: what a leader sends of its snapshot from an offset on, and whether it is the last piece.
+pub fn piece_row(alloc: Global, words: &[&str], out: &mut Vec<u8>) -> Result<(), RowsEnd> {
+    let [snapshot, offset] = words else {
         return Err(RowsEnd::BadInput);
     };
-    let chunk = Chunk {
-        group: GroupId(1),
-        term: 1,
-        index: index(at)?,
-        offset: short_number(offset)?,
-        last: flag(last)?,
-        bytes: bytes(alloc, piece)?,
+    let snapshot = bytes(alloc, snapshot)?;
+    let offset = short_number(offset)?;
+    if offset as usize > snapshot.len() {
+        return Err(RowsEnd::BadInput);
+    }
+    let (piece, last) = chunk(snapshot.as_slice(), offset);
+    show_bytes(piece, out)?;
+    Ok(show_flag(last, out)?)
+}
+
+/// `from-start PEER`: what a leader keeps of a member where it has a new snapshot.
+pub fn from_start_row(words: &[&str], out: &mut Vec<u8>) -> Result<(), RowsEnd> {
+    let [known] = words else {
+        return Err(RowsEnd::BadInput);
     };
-    let progress = joined.take(&chunk)?;
-    Ok(show_progress(progress, joined, out)?)
+    Ok(show_peer(from_start(peer(known)?), out)?)
 }
 
 /// `bytes`: what is received so far.

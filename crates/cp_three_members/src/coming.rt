@@ -6,7 +6,7 @@ ghost use Rattle.cp_rules_ranges.specs.Ranges.{AreInRange, AppendIsInRange, Chun
 ghost use Rattle.cp_raft_state.specs.Said.{body_in, end_in, entry_in};
 ghost use Rattle.cp_three_members.specs.Coming.{IsSaid};
 
-use cp_base::limits::LAST_NUMBER;
+use cp_base::limits::{LAST_NUMBER, MOST_CHUNK, MOST_ENTRIES, MOST_ENTRY};
 use cp_message::{Append, Body, Chunk, LogEntry, Message, VoteRequest};
 
 /// Whether a number may be a term, an index or a round.
@@ -29,7 +29,7 @@ fn are_entries(entries: &[LogEntry]) -> bool
 {
     let mut rest = entries;
     while let [entry, after @ ..] = rest {
-        if entry.term > LAST_NUMBER || entry.bytes.len() > 8192 {
+        if entry.term > LAST_NUMBER || entry.bytes.len() > MOST_ENTRY as usize {
             return false;
         }
         rest = after;
@@ -46,14 +46,15 @@ fn is_request(request: &VoteRequest) -> bool
 
 /// Whether entries to append are in range.
 fn is_append(append: &Append) -> bool
-    ensures { result ≡ true → AppendIsInRange append.now.term append.now.previous_index append.now.previous_term append.now.commit (map entry_in append.now.entries) }
+    ensures { result ≡ true → AppendIsInRange append.now.term append.now.previous_index append.now.previous_term
+        append.now.commit (map entry_in append.now.entries) }
 {
     let entries = append.entries.as_slice();
     is_index(append.term)
         && is_index(append.previous_term)
         && is_index(append.commit)
         && is_index(append.previous_index)
-        && entries.len() <= 100
+        && entries.len() <= MOST_ENTRIES as usize
         && is_index(append.previous_index + entries.len() as u64)
         && are_entries(entries)
 }
@@ -65,7 +66,7 @@ fn is_chunk(chunk: &Chunk) -> bool
     is_offset(chunk.offset)
         && is_index(chunk.term)
         && is_index(chunk.index)
-        && chunk.bytes.len() <= 32768
+        && chunk.bytes.len() <= MOST_CHUNK as usize
 }
 
 /// Whether a body is of a kind for members of a group, and in range.
@@ -103,5 +104,5 @@ pub fn is_call(entry: &[u8]) -> bool
     ensures short { result ≡ true → length entry.now ≤ most_entry }
     ensures plain { result ≡ true → members_in entry.now ≡ None }
 {
-    !entry.is_empty() && entry[0] == 1 && entry.len() <= 8192
+    !entry.is_empty() && entry[0] == 1 && entry.len() <= MOST_ENTRY as usize
 }

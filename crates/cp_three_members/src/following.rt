@@ -3,6 +3,7 @@
 use crate::group::Group;
 use crate::lines::Lines;
 use crate::running::deliver;
+use cp_base::limits::MOST_CHUNK;
 use cp_base::{GroupId, Items};
 use cp_message::{Append, Body, Chunk, LogEntry, Message};
 use std::alloc::Global;
@@ -11,9 +12,6 @@ use std::alloc::Global;
 const HEAD: [u8; 31] = [
     0, 0, 0, 0, 0, 0, 0, 1, 0, 0, 0, 0, 0, 0, 0, 0, 0, 0, 0, 0, 0, 0, 0, 0, 0, 0, 0, 3, 1, 2, 3,
 ];
-
-/// As many bytes as a piece of a snapshot has at most.
-const PIECE: u32 = 32_768;
 
 /// What the leader of term 1 says to member 2.
 fn said(body: Body) -> Message {
@@ -66,7 +64,7 @@ fn first_bytes(alloc: Global) -> Option<Vec<u8>> {
     let Ok(mut bytes) = Vec::from_slice(alloc, &HEAD) else {
         return None;
     };
-    match bytes.resize(PIECE as usize, 0) {
+    match bytes.resize(MOST_CHUNK as usize, 0) {
         Ok(()) => Some(bytes),
         Err(_) => None,
     }
@@ -119,8 +117,8 @@ pub fn install(alloc: Global) -> Option<Vec<u8>> {
     let mut group = Group::start(alloc)?;
     let mut lines = Lines::new(alloc, true);
     let first = piece(5, 0, false, first_bytes(alloc)?);
-    let other = piece(9, PIECE, true, last_bytes(alloc)?);
-    let last = piece(5, PIECE, true, last_bytes(alloc)?);
+    let other = piece(9, MOST_CHUNK, true, last_bytes(alloc)?);
+    let last = piece(5, MOST_CHUNK, true, last_bytes(alloc)?);
     let beat = append(0, 0, 0, Vec::new(alloc));
     let done = hand(alloc, &mut group, beat, &mut lines)
         && hand(alloc, &mut group, first, &mut lines)

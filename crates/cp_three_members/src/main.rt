@@ -5,8 +5,9 @@
 //! committed: `elect`, the first member is elected, and one entry is committed; `remove`, the third member is removed after the
 //! election; `repeat`, a follower is handed an entry twice; `install`, a follower is handed pieces of two snapshots, where what is
 //! written is shown too. Any other row asks for one decision, and is shown with its answer behind a colon: `elections.rt`,
-//! `replies.rt`, `changes.rt` and `chunks.rt` say which rows there are. Numbers of one word have commas between them, `-` is none. Behind the
-//! row `new` no piece of a snapshot is received yet. A line that is no row gives status 1, and then nothing is printed.
+//! `replies.rt`, `changes.rt` and `chunks.rt` say which there are. Numbers of one word have commas between them, and `-` is none.
+//! Behind the rows `new` and `clear` no piece of a snapshot is received yet. A line that is no row gives status 1, and then
+//! nothing is printed.
 //!
 //! With `bench` and a number: so many entries are committed at all three.
 #![tactic(auto)]

@@ -8,7 +8,8 @@ use cp_answers::Refusal;
 use cp_base::{GroupId, NoMemory, Text};
 use cp_message::AppendReply;
 use cp_replicate::{
-    AppendReplied, append_replied, follower_commit, may_expire, may_propose, refused_index,
+    AppendReplied, append_replied, confirm, follower_commit, is_ready, may_expire, may_propose,
+    refused_index,
 };
 use std::alloc::Global;
 
@@ -113,4 +114,30 @@ pub fn refused_row(words: &[&str], out: &mut Vec<u8>) -> Result<(), RowsEnd> {
         return Err(RowsEnd::BadInput);
     };
     Ok(show_number(refused_index(index(last)?, index(previous)?), out)?)
+}
+
+/// `ready ME MEMBERS CONFIRMED-BY ROUND COMMIT INDEX`: whether a leader can answer a read that came with its last index and
+/// waits for a round that these members have confirmed.
+pub fn ready_row(alloc: Global, words: &[&str], out: &mut Vec<u8>) -> Result<(), RowsEnd> {
+    let [me, members, confirmed_by, round, commit, at] = words else {
+        return Err(RowsEnd::BadInput);
+    };
+    let members = bytes(alloc, members)?;
+    let round = index(round)?;
+    let mut confirmed = [0; 10];
+    for member in bytes(alloc, confirmed_by)?.as_slice() {
+        if *member > 9 {
+            return Err(RowsEnd::BadInput);
+        }
+        confirm(&mut confirmed, *member, round);
+    }
+    let ready = is_ready(
+        member(me)?,
+        members.as_slice(),
+        &confirmed,
+        index(commit)?,
+        index(at)?,
+        round,
+    );
+    Ok(show_flag(ready, out)?)
 }

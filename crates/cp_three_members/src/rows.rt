@@ -1,10 +1,12 @@
 //! Rows of a text, and what each of them shows. A row is one line; an empty line and one that begins with `#` is none.
 
 use crate::changes::{may_change_row, new_config_row, new_members_row};
-use crate::chunks::{bytes_row, chunk_row, goes_on_row, writes_own_row};
+use crate::chunks::{
+    bytes_row, chunk_row, from_start_row, goes_on_row, piece_row, would_row, writes_own_row,
+};
 use crate::elections::{quorum_row, standing_row, vote_row};
 use crate::following::{install, repeat};
-use crate::replies::{appended_row, commit_row, expire_row, propose_row, refused_row};
+use crate::replies::{appended_row, commit_row, expire_row, propose_row, ready_row, refused_row};
 use crate::running::{elect, shrink};
 use cp_base::NoMemory;
 use cp_io::{Fault, ReadEnd, Sink, Source, read_all, write_all};
@@ -101,6 +103,8 @@ fn decide(alloc: Global, name: &str, words: &[&str], out: &mut Vec<u8>) -> Resul
         commit_row(words, out)
     } else if name == "refused" {
         refused_row(words, out)
+    } else if name == "ready" {
+        ready_row(alloc, words, out)
     } else if name == "may-change" {
         may_change_row(alloc, words, out)
     } else if name == "new-members" {
@@ -109,6 +113,10 @@ fn decide(alloc: Global, name: &str, words: &[&str], out: &mut Vec<u8>) -> Resul
         new_config_row(alloc, words, out)
     } else if name == "goes-on" {
         goes_on_row(words, out)
+    } else if name == "piece" {
+        piece_row(alloc, words, out)
+    } else if name == "from-start" {
+        from_start_row(words, out)
     } else if name == "writes-own" {
         writes_own_row(words, out)
     } else {
@@ -126,6 +134,8 @@ fn answer(
 ) -> Result<(), RowsEnd> {
     if name == "chunk" {
         chunk_row(alloc, joined, words, out)
+    } else if name == "would" {
+        would_row(alloc, joined, words, out)
     } else if name == "bytes" {
         bytes_row(joined, words, out)
     } else {
@@ -161,6 +171,8 @@ fn shown(alloc: Global, text: &str) -> Result<Vec<u8>, RowsEnd> {
     for line in text.lines() {
         if line == "new" {
             joined = Assembler::new(alloc);
+        } else if line == "clear" {
+            joined.clear();
         } else if !line.is_empty() && !line.starts_with('#') {
             show_row(alloc, &mut joined, line, &mut out)?;
         }

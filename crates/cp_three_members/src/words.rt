@@ -3,8 +3,8 @@ ghost use Rattle.std.specs.Prelude.{◌≤◌, IfOk};
 ghost use Rattle.cp_rules.specs.Limits.{most_index};
 
 use crate::rows::RowsEnd;
+use cp_base::limits::LAST_NUMBER;
 use cp_base::{Items, NoMemory, read_decimal, write_decimal};
-use cp_grammar::MOST_INDEX;
 use cp_rules::{Ballot, LogEnd, Peer, Role};
 use std::alloc::Global;
 
@@ -21,7 +21,7 @@ pub fn index(word: &str) -> Result<u64, RowsEnd>
     ensures { IfOk result (λ index. index ≤ most_index) }
 {
     match read_decimal(word.as_bytes()) {
-        Some(index) if index <= MOST_INDEX => Ok(index),
+        Some(index) if index <= LAST_NUMBER => Ok(index),
         _ => Err(RowsEnd::BadInput),
     }
 }

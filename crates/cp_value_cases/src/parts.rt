@@ -11,12 +11,10 @@ use std::alloc::Global;
 
 /// Appends term and bytes of each entry.
 fn append_entries(entries: &[LogEntry], out: &mut Vec<u8>) -> Result<(), NoMemory> {
-    let mut rest = entries;
-    while let [entry, after @ ..] = rest {
+    for entry in entries.iter() {
         append_numbered(b" ", entry.term, out)?;
         out.push(b':')?;
         write_hex(entry.bytes.as_slice(), out)?;
-        rest = after;
     }
     Ok(())
 }

@@ -20,7 +20,7 @@ loop-bodies-preserved g c =
       frames = λ told. found_body c.loop-bodies.bodies.items c.push_body.new.bodies.items c.in-Ok-Body.body c.loop-bodies.gate _ (g.D.Disk.seen c.args.disk.now) (g.D.Disk.seen c.loop-bodies.disk) c.in-Ok-Body.field-0
           (i.stays told).same (c.in-Ok-Body.ensures.found told) c.in-Ok-Body.field-0-is (i.frames told) c.in-Ok.ensures.ok (omega (arith, c.len.ensures));
       stays = λ told. stays_on g.D.Disk.moment g.D.Disk.left_since g.D.Disk.seen g.D.Disk.may_leave c.args.disk.now c.loop-bodies.disk c.read_frame.new.disk (i.stays told) (c.read_frame.ensures.stays told);
-      faults = omega (arith, i.faults, c.read_frame.ensures.counts.0);
-      starved = omega (arith, i.starved, c.read_frame.ensures.counts.1);
-      orders = c.read_frame.ensures.orders ∙ i.orders;
+      faults = omega (arith, i.faults, c.read_frame.ensures.tallies.0);
+      starved = omega (arith, i.starved, c.read_frame.ensures.tallies.1.0);
+      orders = c.read_frame.ensures.tallies.1.1 ∙ i.orders;
     }

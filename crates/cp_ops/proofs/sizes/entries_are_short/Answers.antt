@@ -1,5 +1,5 @@
 use Rattle.cp_ops.proofs.Entries.{entries_short}
-use Rattle.cp_ops.proofs.entries_are_short.Goals as goal
+use Rattle.cp_ops.proofs.sizes.entries_are_short.Goals as goal
 
 pub returns : goal.returns
 returns c = entries_short

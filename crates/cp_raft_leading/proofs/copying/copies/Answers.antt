@@ -1,6 +1,6 @@
 use Rattle.cp_raft_leading.proofs.Copies.{stops}
 use Rattle.std.proofs.Common.{sym, ◌∙◌}
-use Rattle.cp_raft_leading.proofs.entries.copies.Goals as goal
+use Rattle.cp_raft_leading.proofs.copying.copies.Goals as goal
 
 pub returns-in-None : goal.returns-in-None
 returns-in-None g c =

@@ -1,7 +1,7 @@
 use Rattle.std.proofs.Common.{◌≡◌, ◌<◌, ◌+◌, ◌++◌, map, take}
 use Rattle.cp_replicate.specs.Logs.{from}
 use Rattle.cp_rules_ranges.specs.Messages.{entry_of}
-use Rattle.cp_raft_leading.proofs.entries.copies.Given as goal
+use Rattle.cp_raft_leading.proofs.copying.copies.Given as goal
 
 abbrev pub invariant-loop-left : goal.invariant-loop-left
 invariant-loop-left g l =

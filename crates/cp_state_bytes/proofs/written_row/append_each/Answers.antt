@@ -1,7 +1,7 @@
 use Rattle.std.proofs.Common.{◌++◌}
 use Rattle.cp_state_bytes.specs.Spelled.{each_spelled}
 use Rattle.cp_state_bytes.proofs.Spellings.{row_written, all_written, rest_fits}
-use Rattle.cp_state_bytes.proofs.row.append_each.Goals as goal
+use Rattle.cp_state_bytes.proofs.written_row.append_each.Goals as goal
 
 pub loop-key-preserved : goal.loop-key-preserved
 loop-key-preserved g c = record {

@@ -3,7 +3,7 @@ use Rattle.cp_group_ranges.specs.Rows.{WaiterFits}
 use Rattle.cp_state_bytes.specs.Rows.{waiter_row}
 use Rattle.cp_state_bytes.specs.Spelled.{each_spelled}
 use Rattle.cp_state_bytes.proofs.Spellings.{row_written, none_left_written, rest_fits}
-use Rattle.cp_state_bytes.proofs.rows.append_each_waiter.Goals as goal
+use Rattle.cp_state_bytes.proofs.written_rows.append_each_waiter.Goals as goal
 
 pub loop-waiter-preserved : goal.loop-waiter-preserved
 loop-waiter-preserved c = record {

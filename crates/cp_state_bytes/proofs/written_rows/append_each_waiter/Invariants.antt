@@ -3,7 +3,7 @@ use Rattle.std.specs.List.{AllByRecursion}
 use Rattle.cp_group_ranges.specs.Rows.{WaiterFits}
 use Rattle.cp_state_bytes.specs.Rows.{waiter_row}
 use Rattle.cp_state_bytes.specs.Spelled.{each_spelled}
-use Rattle.cp_state_bytes.proofs.rows.append_each_waiter.Given as goal
+use Rattle.cp_state_bytes.proofs.written_rows.append_each_waiter.Given as goal
 
 abbrev pub invariant-loop-waiter : goal.invariant-loop-waiter
 invariant-loop-waiter l = record {

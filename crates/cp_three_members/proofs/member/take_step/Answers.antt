@@ -12,6 +12,6 @@ step-requires-clause-may c =
 
 pub returns-in-Ok : goal.returns-in-Ok
 returns-in-Ok c = λ done. record {
-  whole = c.in-Ok.ensures.spent;
-  may = for_one (event_of c.args.event.now) c.requires.kind c.in-Ok.ensures.stays;
+  whole = c.in-Ok.ensures.leaves.spent;
+  may = for_one (event_of c.args.event.now) c.requires.kind (λ e is. (c.in-Ok.ensures.steps e is).stays);
 }

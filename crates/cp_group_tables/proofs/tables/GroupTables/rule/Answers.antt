@@ -2,7 +2,7 @@ use Rattle.std.proofs.Common.{ap, sym, ◌∙◌}
 use Rattle.std.specs.Prelude.{◌++◌}
 use Rattle.cp_answers.specs.declared.answer.Answer.{Answer}
 use Rattle.cp_ops.specs.declared.op.Op.{Op}
-use Rattle.cp_group_state.specs.Outcomes.{Answered}
+use Rattle.cp_group_state.specs.declared.outcome.Reply.TheVariants.{Answered}
 use Rattle.cp_group_state.specs.Apply.{rule, told}
 use Rattle.cp_group_tables.proofs.tables.GroupTables.rule.Goals as goal
 
