@@ -15,6 +15,7 @@ else
     say "nothing is proved here yet, so a build that checks while it runs is made first, in a minute or two (./prove proves it) .."
     mkdir -p "$top/out" || exit 1
     exec 9> "$top/out/lock" && flock 9
+    rm -rf "$top/out/building-"* # of a build that was killed
     if ! is_fresh cp_tool "$checked" && ! "$top/tools/checked_build" "$top" "$checked"; then
         # What is wrong, or the output where only the build could not be kept.
         cd "$top/crates/cp_tool" && exec rt try -- "$@" 9>&-

@@ -1,6 +1,5 @@
 -- The history of a group: its entries, at the indexes 1, 2, 3 and so on.
-use Rattle.std.specs.Prelude.{◌≡◌, ℕ, ◌+◌, ◌<◌, ◌≤◌, ◌⊎◌, true, List, [], ◌∷◌, ◌++◌, length, map, Option, Some, None, Contains}
-use Rattle.cp_base.specs.declared.limits.TheConstants.{LAST_NUMBER}
+use Rattle.std.specs.Prelude.{◌≡◌, ℕ, ◌+◌, ◌^◌, ◌<◌, ◌≤◌, ◌⊎◌, true, List, [], ◌∷◌, ◌++◌, length, map, Option, Some, None, Contains}
 use Rattle.cp_op_values.specs.declared.kind.Kind.TheVariants as kind
 use Rattle.cp_base.specs.declared.identifier.Invocation.{Invocation}
 use Rattle.cp_answers.specs.declared.answer.Answer.{Answer}
@@ -53,5 +52,5 @@ pub record IsOrderly (history : History) : Type 0 where
   pub one_op : (call : Invocation) (o p : Op) → Contains history (entry.Call call o) → Contains history (entry.Call call p) → o ≡ p
   -- calls name sessions that were opened before them, and rounds that were reached
   pub entries : IsOrderlyFrom 1 history empty
-  -- indexes end with the last number
-  pub few : length history ≤ LAST_NUMBER
+  -- indexes end at 2 ^ 62
+  pub few : length history ≤ 2 ^ 62

@@ -74,5 +74,4 @@ IsBalanced s = (key : Object) → IsBalancedAt (find object_cmp s.rows key) (hel
 
 -- a session holds one permit or more, of a semaphore that is there
 abbrev pub HoldingsStand : Semaphores → Type 0
-HoldingsStand s = (session : ℕ) (name : List ℕ) (n : ℕ) → find holding_cmp s.holdings (session, name) ≡ Some n
-    → (0 < n) × (is_some (find object_cmp s.rows (name, kind.Sem)) ≡ true)
+HoldingsStand s = (session : ℕ) (name : List ℕ) (n : ℕ) → find holding_cmp s.holdings (session, name) ≡ Some n → (0 < n) × (is_some (find object_cmp s.rows (name, kind.Sem)) ≡ true)

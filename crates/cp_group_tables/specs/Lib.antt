@@ -1,3 +1,4 @@
 pub mod Endings
+pub mod Replies
 pub mod Recalls
 pub mod Stand

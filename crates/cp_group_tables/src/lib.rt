@@ -12,6 +12,7 @@ mod lending;
 mod lock_rules;
 mod named;
 mod recall;
+mod reply;
 mod rules;
 mod sem_rules;
 mod serving;
@@ -19,7 +20,6 @@ mod session_rules;
 mod tables;
 mod timed;
 mod waiters;
-mod waiting;
 
 pub use ending::Ending;
 pub use lending::ObjectTables;

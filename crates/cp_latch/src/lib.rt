@@ -7,6 +7,5 @@ mod latches;
 mod rounds;
 
 pub use counted::Counted;
-pub use cp_group_state::LatchOutcome;
 pub use latch::Latch;
-pub use latches::Latches;
+pub use latches::{LatchOutcome, Latches};

@@ -1,3 +1,4 @@
 pub mod Well
 pub mod Sessions
 pub mod Standing
+pub mod Whole

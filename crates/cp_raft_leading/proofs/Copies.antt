@@ -5,7 +5,7 @@ use Rattle.std.proofs.lemmas.Bool.Decides.{nat_tests}
 use Rattle.std.specs.Prelude.{Option, Some, None, slice_get, unwrap_or, nat_lt}
 use Rattle.std.specs.Option.{option_map}
 use Rattle.cp_parts.specs.declared.log_entry.LogEntry.{LogEntry}
-use Rattle.cp_message.specs.declared.copying.LogEntry as wire
+use Rattle.cp_message.specs.declared.entries.LogEntry as wire
 use Rattle.cp_log_rules.specs.Persistent.{PersistentState, last, entry_at}
 use Rattle.cp_rules.specs.Persistent.{known_term}
 use Rattle.cp_rules.specs.Sending.{batch}

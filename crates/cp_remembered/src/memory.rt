@@ -6,7 +6,7 @@ ghost use Rattle.cp_group_state.specs.Rows.{find, holder_cmp};
 ghost use Rattle.cp_group_state.specs.Sessions.{is_among};
 ghost use Rattle.cp_group_state.specs.Memory.{has_memory, note, remember};
 ghost use Rattle.cp_group_state.specs.Invariants.{IsRising};
-ghost use Rattle.cp_remembered.specs.Memories.{ended_by, has_number};
+ghost use Rattle.cp_remembered.specs.Memories.{MakesMemory, ended_by, has_number};
 
 use crate::forget::forget_each;
 use cp_base::{Items, NoMemory, ThreadNo};
@@ -67,13 +67,17 @@ impl Memory {
         })
     }
 
-    /// The table of these rows, by rising key.
-    pub fn from_rows(alloc: Global, rows: Items<((u64, u8), MemoryRow)>) -> Result<Memory, NoMemory>
-        requires { IsRising holder_cmp rows }
-        ensures { IfOk result (λ memory. memory ≡ rows) }
+    /// The table of these rows: none exactly where their keys don't rise.
+    pub fn from_rows(
+        alloc: Global,
+        rows: Items<((u64, u8), MemoryRow)>,
+    ) -> Result<Option<Memory>, NoMemory>
+        ensures { IfOk result (MakesMemory rows) }
     {
-        let rows = cp_rows::from_rows(alloc, rows)?;
-        Ok(Memory { rows })
+        match cp_rows::rising_rows(alloc, rows)? {
+            Some(rows) => Ok(Some(Memory { rows })),
+            None => Ok(None),
+        }
     }
 
     /// The last call of a thread in a session.

@@ -3,6 +3,5 @@ pub mod Timing
 pub mod Lawful
 pub mod Restoring
 pub mod States
-pub mod ObjectRows
 pub mod Reads
 pub mod Laws

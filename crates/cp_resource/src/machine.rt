@@ -1,6 +1,5 @@
 //! The machine of a group that holds objects.
-ghost use Rattle.std.specs.Prelude.{◌≡◌, ◌++◌, ◌<◌, ◌≤◌, Ok, Some, length, slice_get, IfOk, OnErr, OnOk};
-ghost use Rattle.cp_base.specs.declared.limits.TheConstants.{LAST_NUMBER};
+ghost use Rattle.std.specs.Prelude.{◌≡◌, ◌++◌, ◌<◌, ◌≤◌, ◌^◌, Ok, Some, length, slice_get, IfOk, OnErr, OnOk};
 ghost use Rattle.cp_machine.specs.Machines.{AnswersFit, TimerFits};
 ghost use Rattle.cp_group_state.specs.GroupState.{empty};
 ghost use Rattle.cp_state_bytes.specs.States.{restored, spelled};
@@ -61,7 +60,7 @@ impl GroupMachine {
         entry: &[u8],
         out: &mut Items<(Invocation, Answer)>,
     ) -> Result<(), NoMemory>
-        requires { index ≤ LAST_NUMBER }
+        requires { index ≤ 2 ^ 62 }
         ensures view { OnOk result (self.new ≡ (step self.old index entry.now).view) }
         ensures answers { OnOk result (out.new ≡ out.old ++ (step self.old index entry.now).answers) }
         ensures fit { OnOk result (AnswersFit (step self.old index entry.now).answers) }

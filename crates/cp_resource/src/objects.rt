@@ -1,7 +1,10 @@
 //! The tables of objects out of rows.
 ghost use Rattle.std.specs.Prelude.{◌≡◌, IfOk};
+ghost use Rattle.cp_group_state.specs.Rows.{name_cmp, object_cmp, pair_cmp};
+ghost use Rattle.cp_group_state.specs.Invariants.{IsRising};
+ghost use Rattle.cp_latch.specs.Rounds.{AreRounds};
+ghost use Rattle.cp_lock.specs.Tables as lock_tables;
 ghost use Rattle.cp_semaphore.specs.Tables as semaphore_tables;
-ghost use Rattle.cp_resource.specs.ObjectRows.{AreTables, objects_in};
 ghost use Rattle.cp_resource.specs.States.{HoldSome};
 
 use crate::holdings::holdings_of;
@@ -18,6 +21,17 @@ use cp_rows::from_rows;
 use cp_semaphore::Semaphores;
 use std::alloc::Global;
 
+/// The table of these locks.
+pub(crate) fn locks_of(alloc: Global, rows: Items<(Name, LockRow)>) -> Result<Locks, NoMemory>
+    requires { lock_tables.IsTable rows }
+    ensures { IfOk result (λ locks. locks ≡ rows) }
+{
+    match Locks::from_rows(alloc, rows)? {
+        Some(locks) => Ok(locks),
+        None => unreachable!(),
+    }
+}
+
 /// The table of these semaphores, and of what sessions hold.
 pub(crate) fn semaphores_of(
     alloc: Global,
@@ -33,31 +47,36 @@ pub(crate) fn semaphores_of(
     Ok(Semaphores::from_maps(alloc, rows, holdings))
 }
 
-/// The rows of a group's objects.
-#[derive(Drop)]
-pub(crate) struct ObjectRows {
-    pub(crate) locks: Items<(Name, LockRow)>,
-    pub(crate) semaphores: Items<((Name, Kind), SemaphoreRow)>,
-    pub(crate) holdings: Items<((u64, Name), u64)>,
-    pub(crate) latches: Items<(Name, LatchRow)>,
-    pub(crate) longs: Items<(Name, i64)>,
-    pub(crate) refs: Items<(Name, Option<Items<u8>>)>,
-    pub(crate) maps: Items<((Name, Key), Items<u8>)>,
-    pub(crate) gone: Items<((Name, Kind), ())>,
-}
-
 /// The tables of these objects.
-pub(crate) fn objects_of(alloc: Global, rows: ObjectRows) -> Result<ObjectTables, NoMemory>
-    requires { AreTables rows }
-    ensures { IfOk result (λ objects. objects ≡ objects_in rows) }
+pub(crate) fn objects_of(
+    alloc: Global,
+    locks: Items<(Name, LockRow)>,
+    semaphores: Items<((Name, Kind), SemaphoreRow)>,
+    holdings: Items<((u64, Name), u64)>,
+    latches: Items<(Name, LatchRow)>,
+    longs: Items<(Name, i64)>,
+    refs: Items<(Name, Option<Items<u8>>)>,
+    maps: Items<((Name, Key), Items<u8>)>,
+    gone: Items<((Name, Kind), ())>,
+) -> Result<ObjectTables, NoMemory>
+    requires locks { lock_tables.IsTable locks }
+    requires semaphores { semaphore_tables.IsSound (record { rows = semaphores; holdings = holdings }) }
+    requires some { HoldSome holdings }
+    requires latches { IsRising name_cmp latches }
+    requires rounds { AreRounds latches }
+    requires longs { IsRising name_cmp longs }
+    requires refs { IsRising name_cmp refs }
+    requires maps { IsRising pair_cmp maps }
+    requires gone { IsRising object_cmp gone }
+    ensures { IfOk result (λ objects. objects ≡ record { locks = locks; semaphores = record { rows = semaphores; holdings = holdings }; latches = latches; longs = longs; refs = refs; maps = maps; gone = gone }) }
 {
     Ok(ObjectTables {
-        locks: Locks::from_rows(alloc, rows.locks)?,
-        semaphores: semaphores_of(alloc, rows.semaphores, rows.holdings)?,
-        latches: Latches::from_rows(alloc, rows.latches)?,
-        longs: Longs::from_rows(alloc, rows.longs)?,
-        refs: Refs::from_rows(alloc, rows.refs)?,
-        maps: Maps::from_rows(alloc, rows.maps)?,
-        gone: Gone::from_rows(alloc, rows.gone)?,
+        locks: locks_of(alloc, locks)?,
+        semaphores: semaphores_of(alloc, semaphores, holdings)?,
+        latches: Latches::from_rows(alloc, latches)?,
+        longs: Longs::from_rows(alloc, longs)?,
+        refs: Refs::from_rows(alloc, refs)?,
+        maps: Maps::from_rows(alloc, maps)?,
+        gone: Gone::from_rows(alloc, gone)?,
     })
 }

@@ -1,6 +1,5 @@
 //! What the bytes of an entry do to the tables of a group.
-ghost use Rattle.std.specs.Prelude.{◌≡◌, ◌++◌, ◌≤◌, OnOk, IfOk};
-ghost use Rattle.cp_base.specs.declared.limits.TheConstants.{LAST_NUMBER};
+ghost use Rattle.std.specs.Prelude.{◌≡◌, ◌++◌, ◌≤◌, ◌^◌, OnOk, IfOk};
 ghost use Rattle.cp_ops.specs.Entries.{entry_grammar};
 ghost use Rattle.cp_machine.specs.Machines.{AnswersFit};
 ghost use Rattle.cp_group_state.specs.Apply.{apply};
@@ -24,7 +23,7 @@ fn apply_entry(
     entry: &Entry,
     out: &mut Items<(Invocation, Answer)>,
 ) -> Result<(), NoMemory>
-    requires index { index ≤ LAST_NUMBER }
+    requires index { index ≤ 2 ^ 62 }
     requires fits { entry_grammar.Fits entry.now }
     requires sound { IsSound tables.old }
     ensures view { OnOk result (tables.new ≡ (apply index entry.now tables.old).state) }
@@ -44,7 +43,7 @@ pub(crate) fn apply_bytes(
     bytes: &[u8],
     out: &mut Items<(Invocation, Answer)>,
 ) -> Result<(), NoMemory>
-    requires index { index ≤ LAST_NUMBER }
+    requires index { index ≤ 2 ^ 62 }
     requires sound { IsSound tables.old }
     ensures view { OnOk result (tables.new ≡ (step tables.old index bytes.now).view) }
     ensures answers { OnOk result (out.new ≡ out.old ++ (step tables.old index bytes.now).answers) }

@@ -1,22 +1,21 @@
 //! The table of sessions of a group.
-ghost use Rattle.std.specs.Prelude.{◌≡◌, [], ◌∷◌, not, is_some, Some, IfErr, IfOk, OnErr, OnOk};
+ghost use Rattle.std.specs.Prelude.{◌≡◌, [], ◌∷◌, not, is_some, IfErr, IfOk, OnErr, OnOk};
 ghost use Rattle.std.specs.List.{filter};
 ghost use Rattle.std.specs.Option.{option_map};
 ghost use Rattle.std.specs.Ordering.{nat_cmp};
 ghost use Rattle.cp_group_state.specs.Rows.{find};
 ghost use Rattle.cp_group_state.specs.Sessions.{is_among, is_open_for, unchanged_since};
 ghost use Rattle.cp_group_state.specs.Invariants.{IsRising, OneSession};
-ghost use Rattle.cp_session.specs.Creation.{IsSessionError, created};
+ghost use Rattle.cp_session.specs.Creation.{IsCreated, IsSessionError, created};
 ghost use Rattle.cp_session.specs.Beats.{version_after, with_beat};
-ghost use Rattle.cp_session.specs.Tables.{IsTable};
+ghost use Rattle.cp_session.specs.Tables.{MakesTable, IsTable};
 
 use crate::beat::{beat_row, beaten_row};
 use crate::close::{close_each, close_one};
 use crate::error::SessionError;
 use crate::expire::unchanged;
-use crate::open::{Met, meet, open_at};
+use crate::open::{MOST_ROWS, Met, meet, open_at};
 use crate::restore::maps_of;
-use cp_base::limits::MOST_ROWS;
 use cp_base::{ClientId, Items, NoMemory};
 use cp_group_state::SessionRow;
 use std::alloc::Global;
@@ -57,25 +56,29 @@ impl Sessions {
         })
     }
 
-    /// The table of these rows, by rising number. No client has two of them.
-    pub fn from_rows(alloc: Global, rows: Items<(u64, SessionRow)>) -> Result<Sessions, NoMemory>
-        requires { IsTable rows }
-        ensures { IfOk result (λ sessions. sessions ≡ rows) }
+    /// The table of these rows: none exactly where their numbers don't rise, or a client has two of them.
+    pub fn from_rows(
+        alloc: Global,
+        rows: Items<(u64, SessionRow)>,
+    ) -> Result<Option<Sessions>, NoMemory>
+        ensures { IfOk result (MakesTable rows) }
     {
-        let (rows, numbers) = maps_of(alloc, rows)?;
-        Ok(Sessions {
-            alloc,
-            rows,
-            numbers,
-        })
+        match maps_of(alloc, rows)? {
+            Some((rows, numbers)) => Ok(Some(Sessions {
+                alloc,
+                rows,
+                numbers,
+            })),
+            None => Ok(None),
+        }
     }
 
     /// The number of the client's open session; where it has none, one is opened, under the index as its number. A row
     /// of another client that has this number gives way to it.
     pub fn create(&mut self, index: u64, client: &ClientId) -> Result<u64, SessionError>
         ensures rows { OnOk result (self.new ≡ (created self.old index client.now).rows) }
-        ensures number { IfOk result (λ number. (created self.old index client.now).number ≡ Some number) }
-        ensures error { IfErr result (λ error. IsSessionError error (created self.old index client.now).number) }
+        ensures number { IfOk result (λ number. IsCreated number (created self.old index client.now).creation) }
+        ensures error { IfErr result (λ error. IsSessionError error (created self.old index client.now).creation) }
         ensures same { OnErr result (self.new ≡ self.old) }
     {
         match meet(&self.rows, &self.numbers, index, client) {
@@ -115,14 +118,6 @@ impl Sessions {
         close_each(&mut self.rows, &mut self.numbers, sessions);
     }
 
-    /// The sessions that are named with the version that they have, in the order in which they are named.
-    pub fn unchanged(&self, pairs: &[(u64, u64)]) -> Result<Vec<u64>, NoMemory>
-        ensures { IfOk result (λ sessions. sessions.items ≡ unchanged_since self.now pairs.now) }
-    {
-        let sessions = unchanged(self.alloc, &self.rows, pairs)?;
-        Ok(sessions)
-    }
-
     /// The sessions that are named with the version that they have are closed, and answered in the order in which they
     /// are named.
     pub fn expire(&mut self, pairs: &[(u64, u64)]) -> Result<Vec<u64>, NoMemory>
@@ -130,7 +125,7 @@ impl Sessions {
         ensures rows { OnOk result (self.new ≡ filter (λ e. not (is_among (unchanged_since self.old pairs.now) e.0)) self.old) }
         ensures same { OnErr result (self.new ≡ self.old) }
     {
-        let closed = self.unchanged(pairs)?;
+        let closed = unchanged(self.alloc, &self.rows, pairs)?;
         self.close_all(&closed);
         Ok(closed)
     }

@@ -1,93 +1,42 @@
 -- What the tests of the rules tell.
-use Rattle.std.proofs.Common.{◌≡◌, ℕ, ◌+◌, ◌-◌, ◌^◌, ◌≤◌, ◌<◌, Bool, true, false, not, ◌&&◌, ◌||◌, List, [], ◌∷◌, ◌++◌, length, append_assoc, Option, Some, None, refl, ap, sym, ◌∙◌, subst, cond, arith, unwrap_or, min, is_some}
+use Rattle.std.proofs.Common.{◌≡◌, ℕ, ◌+◌, ◌-◌, ◌^◌, ◌≤◌, ◌<◌, Bool, true, false, ◌&&◌, List, [], ◌∷◌, ◌++◌, length, append_assoc, Option, Some, None, refl, ap, sym, ◌∙◌, subst, cond, arith, unwrap_or, min, is_some}
 use Rattle.std.specs.Prelude.{ℤ, pos, ◌+ℤ◌, bytes_eq}
-use Rattle.std.specs.List.{AllByRecursion, list_all, list_any}
+use Rattle.std.specs.List.{AllByRecursion, list_all}
 use Rattle.std.specs.Ordering.{nat_cmp, int_eq}
-use Rattle.std.proofs.lemmas.Cmp.{nat_list_eq_equiv}
 use Rattle.std.proofs.lemmas.Int.{ints}
 use Rattle.std.proofs.lemmas.List.{append-nil, nil_from_length}
 use Rattle.std.proofs.lemmas.Slice.Eq.{bytes_eq-Decides}
 use Rattle.cp_base.proofs.Tests.{no_true}
-use Rattle.cp_base.specs.declared.identifier.ClientId.{ClientId}
 use Rattle.cp_group_state.specs.declared.rows.SessionRow.{SessionRow}
 use Rattle.cp_group_state.specs.declared.rows.SemaphoreRow.{SemaphoreRow}
 use Rattle.cp_group_state.specs.declared.rows.Waiter.{Waiter}
 use Rattle.cp_group_state.specs.Rows.{Object, find, most, put, name_cmp}
 use Rattle.cp_group_state.specs.Semaphores.{Semaphores, is_held}
-use Rattle.cp_group_state.specs.Invariants.{CallsDiffer, held_by_all, held_of}
-use Rattle.cp_group_state.specs.Waiters.{same_client}
+use Rattle.cp_group_state.specs.Invariants.{IsRising, CallsDiffer, held_by_all, held_of}
 use Rattle.cp_group_state.proofs.Keyed.{name_key, is_at_apart, find-put_same, find-put_other}
+use Rattle.cp_session.specs.Tables.{IsTable, MakesTable}
 use Rattle.cp_group_ranges.specs.Rows.{IsPermits, SemaphoreFits}
 use Rattle.cp_state_bytes.specs.Lists.{Holdings}
-use Rattle.cp_state_bytes.specs.Rules.{knows, clients_differ, calls_differ}
+use Rattle.cp_state_bytes.specs.Rules.{clients_differ, calls_differ}
 use Rattle.cp_state_bytes.specs.Sums.{AreSums, sum_under, are_balanced_by}
-use Rattle.cp_state_bytes.proofs.Consistent.{calls_are, calls_pass}
+use Rattle.cp_state_bytes.proofs.Consistent.{sessions_are, sessions_pass, calls_are, calls_pass}
 
 -- ---- sessions and waiters
 
--- whether no session is of one of these clients
-abbrev pub are_unknown : List ClientId → List (ℕ × SessionRow) → Bool
-are_unknown clients rows = list_all (λ e. not (knows clients e.1.client)) rows
+clients_apart : (rows : List (ℕ × SessionRow)) → IsTable rows → true ≡ clients_differ rows
+clients_apart rows table = sym (sessions_pass rows table.rising table.one)
 
--- no two sessions have one client exactly where no session that is left is of a client that was met, and no two that are left have one
-pub record IsMet (clients : List ClientId) (left rows : List (ℕ × SessionRow)) : Type 0 where
-  pub same : clients_differ rows ≡ (are_unknown clients left && clients_differ left)
+clients_alike : (rows : List (ℕ × SessionRow)) → IsRising nat_cmp rows → (IsTable rows → ⊥) → false ≡ clients_differ rows
+clients_alike rows rising none = by (clients_differ rows) refl
+  where
+    by : (b : Bool) → clients_differ rows ≡ b → false ≡ b
+    by true h = absurd (none (record { rising = rising; one = sessions_are rows h }))
+    by false h = refl
 
-nobody : (rows : List (ℕ × SessionRow)) → are_unknown [] rows ≡ true
-nobody [] = refl
-nobody (e ∷ es) = nobody es
-
-pub none_met : (clients : List ClientId) (rows : List (ℕ × SessionRow)) → clients ≡ [] → IsMet clients rows rows
-none_met clients rows none = record { same = ap (λ (b : Bool). b && clients_differ rows) (sym (ap (λ (known : List ClientId). are_unknown known rows) none ∙ nobody rows)) }
-
-turned : (a b : ClientId) → same_client a b ≡ same_client b a
-turned a b = nat_list_eq_equiv.symm a.0 b.0
-
-either : (b o : Bool) → cond b true o ≡ (o || b)
-either true true = refl
-either true false = refl
-either false true = refl
-either false false = refl
-
--- what a set tells of a client after another was put in
-pub learnt : (client other : ClientId) (old new : Bool) → new ≡ cond (same_client client other) true old → new ≡ (old || same_client other client)
-learnt client other old new told = told ∙ ap (λ (b : Bool). cond b true old) (turned client other) ∙ either (same_client other client) old
-
-parted : (a s b t : Bool) → (not (a || s) && (b && not t)) ≡ ((not a && b) && not (s || t))
-parted true s b t = refl
-parted false true true t = refl
-parted false true false t = refl
-parted false false b t = refl
-
--- with one client more, the sessions that are left must not be of that client
-one_more : (clients next : List ClientId) (client : ClientId) (rows : List (ℕ × SessionRow)) → ((other : ClientId) → knows next other ≡ (knows clients other || same_client other client))
-    → are_unknown next rows ≡ (are_unknown clients rows && not (list_any (λ f. same_client client f.1.client) rows))
-one_more clients next client [] told = refl
-one_more clients next client (f ∷ fs) told =
-    ap (λ (b : Bool). not b && are_unknown next fs) (told f.1.client ∙ ap (λ (b : Bool). knows clients f.1.client || b) (turned f.1.client client))
-    ∙ ap (λ (b : Bool). not (knows clients f.1.client || same_client client f.1.client) && b) (one_more clients next client fs told)
-    ∙ parted (knows clients f.1.client) (same_client client f.1.client) (are_unknown clients fs) (list_any (λ g. same_client client g.1.client) fs)
-
-grouped : (a b c : Bool) → ((a && b) && c) ≡ (a && (b && c))
-grouped true b c = refl
-grouped false b c = refl
-
-pub one_met : (clients next : List ClientId) (e : ℕ × SessionRow) (es rest rows : List (ℕ × SessionRow)) → rest ≡ e ∷ es → IsMet clients rest rows → knows clients e.1.client ≡ false
-    → ((other : ClientId) → knows next other ≡ (knows clients other || same_client other e.1.client)) → IsMet next es rows
-one_met clients next e es rest rows first met unknown told = record {
-  same =
-      met.same ∙ ap (λ (left : List (ℕ × SessionRow)). are_unknown clients left && clients_differ left) first
-      ∙ ap (λ (b : Bool). (not b && are_unknown clients es) && clients_differ (e ∷ es)) unknown
-      ∙ sym (grouped (are_unknown clients es) (not (list_any (λ f. same_client e.1.client f.1.client) es)) (clients_differ es))
-      ∙ ap (λ (b : Bool). b && clients_differ es) (sym (one_more clients next e.1.client es told));
-}
-
-pub met_again : (clients : List ClientId) (e : ℕ × SessionRow) (es rest rows : List (ℕ × SessionRow)) → rest ≡ e ∷ es → IsMet clients rest rows → knows clients e.1.client ≡ true → false ≡ clients_differ rows
-met_again clients e es rest rows first met known = sym (met.same ∙ ap (λ (left : List (ℕ × SessionRow)). are_unknown clients left && clients_differ left) first
-    ∙ ap (λ (b : Bool). (not b && are_unknown clients es) && clients_differ (e ∷ es)) known)
-
-pub all_met : (clients : List ClientId) (rest rows : List (ℕ × SessionRow)) → length rest ≡ 0 → IsMet clients rest rows → true ≡ clients_differ rows
-all_met clients rest rows none met = sym (met.same ∙ ap (λ (left : List (ℕ × SessionRow)). are_unknown clients left && clients_differ left) (nil_from_length rest none))
+-- a table is made of the rows exactly where no client has two
+pub clients_told : (rows copy : List (ℕ × SessionRow)) (made : Option (List (ℕ × SessionRow))) → copy ≡ rows → IsRising nat_cmp rows → MakesTable copy made → is_some made ≡ clients_differ rows
+clients_told rows copy None same rising makes = clients_alike rows rising (λ table. makes (subst IsTable (sym same) table))
+clients_told rows copy (Some sessions) same rising makes = clients_apart rows (subst IsTable same makes.1)
 
 pub calls_apart : (rows copy : List Waiter) → copy ≡ rows → CallsDiffer copy → true ≡ calls_differ rows
 calls_apart rows copy same differ = sym (calls_pass rows (subst CallsDiffer same differ))

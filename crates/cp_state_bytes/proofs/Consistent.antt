@@ -31,12 +31,13 @@ use Rattle.cp_group_state.proofs.Keyed.{IsKey, number_key, object_key, same-clie
 use Rattle.cp_group_state.proofs.Rising.{less-none}
 use Rattle.cp_group_state.proofs.Ordered.{object_total, holding_total, holding_key}
 use Rattle.cp_group_state.specs.Locks.{is_free}
+use Rattle.cp_lock.specs.Tables.{is_whole, are_whole}
+use Rattle.cp_lock.proofs.Whole.{all_well}
 use Rattle.cp_group_ranges.specs.Rows.{is_semaphore, LockFits}
 use Rattle.cp_group_ranges.specs.States.{HasSemaphore}
 use Rattle.cp_state_bytes.specs.Lists.{Holdings}
 use Rattle.cp_state_bytes.proofs.Facts.{LockFields}
-use Rattle.cp_state_bytes.proofs.Whole.{all_well}
-use Rattle.cp_state_bytes.specs.Rules.{is_whole, are_whole, clients_differ, calls_differ, are_balanced, holdings_stand, waiters_stand}
+use Rattle.cp_state_bytes.specs.Rules.{clients_differ, calls_differ, are_balanced, holdings_stand, waiters_stand}
 
 -- ---- no call has two waiters
 

@@ -1,5 +1,4 @@
 pub mod StateLaws
-pub mod Whole
 pub mod Consistent
 pub mod Sound
 pub mod Checks

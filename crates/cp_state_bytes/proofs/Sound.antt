@@ -8,11 +8,12 @@ use Rattle.cp_grammar.specs.Laws.{whole_again, whole_takes}
 use Rattle.cp_group_state.specs.GroupState.{GroupState}
 use Rattle.cp_group_ranges.specs.States.{IsSound}
 use Rattle.cp_group_ranges.proofs.Counts.{holdings-stand}
+use Rattle.cp_lock.specs.Tables.{are_whole}
 use Rattle.cp_state_bytes.specs.declared.version.Version.{Version}
 use Rattle.cp_state_bytes.specs.declared.version.Version.TheVariants as versions
 use Rattle.cp_state_bytes.specs.Versions.{version_grammar}
 use Rattle.cp_state_bytes.proofs.Listed.{session_list_fits, session_list_facts, lock_list_fits, lock_list_facts, semaphore_list_fits, semaphore_list_facts, holding_list_fits, holding_list_facts, latch_list_fits, latch_list_facts, long_list_fits, long_list_facts, ref_list_fits, ref_list_facts, gone_list_fits, gone_list_facts, waiter_list_fits, waiter_list_facts, memory_list_fits, memory_list_facts, pair_list_fits, pair_list_facts}
-use Rattle.cp_state_bytes.specs.Rules.{are_whole, clients_differ, calls_differ, are_balanced, holdings_stand, waiters_stand, is_consistent}
+use Rattle.cp_state_bytes.specs.Rules.{clients_differ, calls_differ, are_balanced, holdings_stand, waiters_stand, is_consistent}
 use Rattle.cp_state_bytes.specs.States.{owners, objects, calls, lists_in, state_in, any_version, unversioned, spelled, restored, HasCounts}
 use Rattle.cp_state_bytes.proofs.StateLaws.{any_version_lawful}
 use Rattle.cp_state_bytes.proofs.Consistent.{calls_are, calls_pass, waiters_are, waiters_pass, sessions_are, sessions_pass, balanced_are, balanced_pass, holdings_pass, locks_are, locks_pass}

@@ -10,12 +10,12 @@ use Rattle.cp_grammar.specs.Lists.{items_spelling, each}
 use Rattle.cp_group_state.specs.GroupState.{GroupState}
 use Rattle.cp_group_state.specs.Rows.{Named, Object, holding_cmp, put}
 use Rattle.cp_group_state.specs.Invariants.{IsRising}
-use Rattle.cp_group_state.specs.declared.written_rows.SessionRow.{SessionRow}
-use Rattle.cp_group_state.specs.declared.written_rows.LockRow.{LockRow}
-use Rattle.cp_group_state.specs.declared.written_rows.SemaphoreRow.{SemaphoreRow}
-use Rattle.cp_group_state.specs.declared.written_rows.LatchRow.{LatchRow}
-use Rattle.cp_group_state.specs.declared.written_rows.Waiter.{Waiter}
-use Rattle.cp_group_state.specs.declared.written_rows.MemoryRow.{MemoryRow}
+use Rattle.cp_group_state.specs.declared.rows.SessionRow.{SessionRow}
+use Rattle.cp_group_state.specs.declared.rows.LockRow.{LockRow}
+use Rattle.cp_group_state.specs.declared.rows.SemaphoreRow.{SemaphoreRow}
+use Rattle.cp_group_state.specs.declared.rows.LatchRow.{LatchRow}
+use Rattle.cp_group_state.specs.declared.rows.Waiter.{Waiter}
+use Rattle.cp_group_state.specs.declared.rows.MemoryRow.{MemoryRow}
 use Rattle.cp_group_ranges.specs.Rows.{HoldingFits}
 use Rattle.cp_group_ranges.specs.States.{IsSound}
 use Rattle.cp_state_bytes.specs.declared.version.Version.TheVariants.{Third}

@@ -1,31 +1,18 @@
 -- The rules that bind the lists of a group's state to one another. They are of no single field.
-use Rattle.std.specs.Prelude.{ℕ, Bool, true, not, ◌&&◌, ◌||◌, ◌==◌, ℤ, pos, ◌+ℤ◌, List, [], ◌∷◌, is_some}
+use Rattle.std.specs.Prelude.{ℕ, Bool, true, not, ◌&&◌, ◌||◌, ℤ, pos, ◌+ℤ◌, List, [], ◌∷◌, is_some}
 use Rattle.std.specs.List.{list_all, list_any}
 use Rattle.std.specs.Ordering.{int_eq}
 use Rattle.cp_op_values.specs.declared.kind.Kind.TheVariants as kind
-use Rattle.cp_base.specs.declared.identifier.ClientId.{ClientId}
 use Rattle.cp_group_state.specs.declared.rows.SessionRow.{SessionRow}
-use Rattle.cp_group_state.specs.declared.rows.LockRow.{LockRow}
 use Rattle.cp_group_state.specs.declared.rows.SemaphoreRow.{SemaphoreRow}
 use Rattle.cp_group_state.specs.declared.rows.Waiter.{Waiter}
-use Rattle.cp_group_state.specs.Rows.{Named, Object, find, object_cmp}
+use Rattle.cp_group_state.specs.Rows.{Object, find, object_cmp}
 use Rattle.cp_group_state.specs.Waiters.{same_client, stands}
-use Rattle.cp_group_state.specs.Locks.{is_free}
 use Rattle.cp_group_state.specs.Semaphores.{Semaphores}
 use Rattle.cp_group_state.specs.Invariants.{held_of}
 use Rattle.cp_group_state.specs.GroupState.{GroupState}
 use Rattle.cp_group_ranges.specs.Rows.{is_semaphore}
-
--- whether the lock is held, or every number in its row is 0
-abbrev pub is_whole : LockRow → Bool
-is_whole row = not (is_free row) || ((row.holder.session == 0) && ((row.holder.thread.0 == 0) && (row.fence == 0)))
-
-abbrev pub are_whole : Named LockRow → Bool
-are_whole rows = list_all (λ e. is_whole e.1) rows
-
--- whether a client is among these
-abbrev pub knows : List ClientId → ClientId → Bool
-knows clients client = list_any (λ c. same_client client c) clients
+use Rattle.cp_lock.specs.Tables.{are_whole}
 
 -- no two sessions have one client
 abbrev pub clients_differ : List (ℕ × SessionRow) → Bool

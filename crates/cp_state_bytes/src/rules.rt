@@ -1,24 +1,24 @@
 //! The rules that bind the lists of a state to one another.
 ghost use Rattle.std.specs.Prelude.{◌≡◌, ◌≤◌, ◌+◌, ◌-◌, ◌^◌, ◌||◌, ◌+ℤ◌, pos, not, min, is_some, length, IfOk, OnOk};
 ghost use Rattle.std.specs.List.{AllByRecursion};
-ghost use Rattle.std.specs.Ordering.{int_eq};
-ghost use Rattle.cp_base.specs.declared.identifier.ClientId.{ClientId};
-ghost use Rattle.cp_group_state.specs.Waiters.{same_client};
+ghost use Rattle.std.specs.Ordering.{nat_cmp, int_eq};
 ghost use Rattle.cp_group_state.specs.Rows.{find, most, name_cmp, object_cmp, put};
 ghost use Rattle.cp_group_state.specs.Invariants.{IsRising};
+ghost use Rattle.cp_lock.specs.Tables.{is_whole, are_whole};
 ghost use Rattle.cp_group_ranges.specs.Rows.{is_semaphore, SemaphoreFits};
 ghost use Rattle.cp_state_bytes.specs.GroupRows.{state_of};
-ghost use Rattle.cp_state_bytes.specs.Rules.{is_whole, are_whole, knows, clients_differ, calls_differ, are_balanced, holdings_stand, waiters_stand, permits_are_consistent, is_consistent};
+ghost use Rattle.cp_state_bytes.specs.Rules.{clients_differ, calls_differ, are_balanced, holdings_stand, waiters_stand, permits_are_consistent, is_consistent};
 ghost use Rattle.cp_state_bytes.specs.Sums.{AreListed, AreSums, are_balanced_by, held_in, sum_under};
 
 use crate::group_rows::GroupRows;
-use cp_base::{ClientId, Items, Name, NoMemory};
+use cp_base::{Items, Name, NoMemory};
 use cp_group_state::{LockRow, SemaphoreRow, SessionRow, Waiter};
 use cp_op_values::Kind;
 use cp_rows::{from_rows, put_row};
+use cp_session::Sessions;
 use cp_wait::{RowsError, Waits};
 use std::alloc::Global;
-use std::collections::{BTreeMap, HashSet};
+use std::collections::BTreeMap;
 
 /// Semaphores by name and kind.
 type Semaphores = BTreeMap<(Name, Kind), SemaphoreRow>;
@@ -78,36 +78,26 @@ fn copied_semaphores(
     Ok(copy)
 }
 
-/// Whether a client is among these.
-fn knows(clients: &HashSet<ClientId>, client: &ClientId) -> bool
-    ensures { result ≡ knows clients.now.keys client.now }
+/// The same sessions.
+fn copied_sessions(
+    alloc: Global,
+    rows: &[(u64, SessionRow)],
+) -> Result<Items<(u64, SessionRow)>, NoMemory>
+    ensures { IfOk result (λ copy. copy ≡ rows.now) }
 {
-    clients.contains(client)
-}
-
-/// Puts a client among these.
-fn learn(clients: &mut HashSet<ClientId>, client: &ClientId) -> Result<(), NoMemory>
-    ensures { OnOk result ((other : ClientId) → knows clients.new.keys other ≡ (knows clients.old.keys other || same_client other client.now)) }
-{
-    clients.insert(*client)?;
-    Ok(())
+    let copy = Vec::from_slice(alloc, rows)?;
+    Ok(Items::from_vec(copy))
 }
 
 /// Whether no two sessions have one client.
-#[tactic(auto, using(crate::proofs::Checks::none_met, crate::proofs::Checks::one_met, crate::proofs::Checks::met_again, crate::proofs::Checks::all_met))]
+#[tactic(auto, using(crate::proofs::Checks::clients_told))]
 fn clients_differ(alloc: Global, rows: &[(u64, SessionRow)]) -> Result<bool, NoMemory>
+    requires { IsRising nat_cmp rows.now }
     ensures { IfOk result (λ differ. differ ≡ clients_differ rows.now) }
 {
-    let mut clients = HashSet::new(alloc);
-    let mut rest = rows;
-    while let Some((row, after)) = rest.split_first() {
-        if knows(&clients, &row.1.client) {
-            return Ok(false);
-        }
-        learn(&mut clients, &row.1.client)?;
-        rest = after;
-    }
-    Ok(true)
+    let copy = copied_sessions(alloc, rows)?;
+    let made = Sessions::from_rows(alloc, copy)?;
+    Ok(made.is_some())
 }
 
 /// Whether no two waiters are of one call.
@@ -172,9 +162,7 @@ fn is_semaphore(kind: Kind) -> bool
 
 /// Whether the semaphore that a call waits for is there.
 fn waiter_stands(semaphores: &Semaphores, waiter: &Waiter) -> Result<bool, NoMemory>
-    ensures { IfOk result
-        (λ there. there
-        ≡ (not (is_semaphore waiter.now.kind) || is_some (find object_cmp semaphores.now.entries (waiter.now.name, waiter.now.kind)))) }
+    ensures { IfOk result (λ there. there ≡ (not (is_semaphore waiter.now.kind) || is_some (find object_cmp semaphores.now.entries (waiter.now.name, waiter.now.kind)))) }
 {
     if !is_semaphore(waiter.kind) {
         return Ok(true);
@@ -215,8 +203,7 @@ fn holdings_stand(
 
 /// Adds permits to what all sessions hold under a name, up to the most that a number can say.
 fn add(sums: &mut BTreeMap<Name, u64>, name: &Name, permits: u64) -> Result<(), NoMemory>
-    ensures { OnOk result
-        (sums.new.entries ≡ put name_cmp sums.old.entries name.now (min (sum_under sums.old.entries name.now + permits) (2 ^ 64 - 1))) }
+    ensures { OnOk result (sums.new.entries ≡ put name_cmp sums.old.entries name.now (min (sum_under sums.old.entries name.now + permits) (2 ^ 64 - 1))) }
 {
     let sum = match sums.get(name) {
         Some(sum) => sum.saturating_add(permits),
@@ -227,9 +214,7 @@ fn add(sums: &mut BTreeMap<Name, u64>, name: &Name, permits: u64) -> Result<(), 
 
 /// Adds what one row says.
 fn add_row(sums: &mut BTreeMap<Name, u64>, row: &((u64, Name), u64)) -> Result<(), NoMemory>
-    ensures { OnOk result
-        (sums.new.entries
-        ≡ put name_cmp sums.old.entries row.now.0.1 (min (sum_under sums.old.entries row.now.0.1 + row.now.1) (2 ^ 64 - 1))) }
+    ensures { OnOk result (sums.new.entries ≡ put name_cmp sums.old.entries row.now.0.1 (min (sum_under sums.old.entries row.now.0.1 + row.now.1) (2 ^ 64 - 1))) }
 {
     let ((_session, name), permits) = row;
     add(sums, name, *permits)

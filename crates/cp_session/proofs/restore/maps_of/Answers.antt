@@ -1,7 +1,11 @@
-use Rattle.std.specs.Vec.Iter.{into_iter_items}
-use Rattle.cp_session.proofs.Tabled.{goes_on}
+use Rattle.std.proofs.Common.{◌≡◌, subst, arith}
+use Rattle.std.proofs.lemmas.Grind.{common_steps}
+use Rattle.cp_session.specs.Tables.{IsTable}
+use Rattle.cp_session.proofs.Tabled.{one_session}
 use Rattle.cp_session.proofs.restore.maps_of.Goals as goal
 
-pub loop-number-preserved : goal.loop-number-preserved
-loop-number-preserved c = goes_on c.loop-number.map.entries c.append.new.rows.entries (into_iter_items c.loop-number.number-iterator) (into_iter_items c.next.new.self) c.args.rows c.append.new.numbers.entries
-    c.in-Some.number c.in-Some.row c.in_ok-append.ensures.rows c.in_ok-append.ensures.indexed c.requires c.loop-number.invariant.0 c.in-Some.ensures.steps.0
+pub returns : goal.returns
+returns c =
+    let whole : c.loop-number.map.entries ≡ c.args.rows = grind (arith, common_steps) in
+    let table : IsTable c.loop-number.map.entries = record { rising = c.len-len.ensures.ordered; one = one_session c.loop-number.map.entries c.loop-number.numbers.entries c.loop-number.invariant.1 } in
+    (whole, c.loop-number.invariant.1, subst (λ rows. IsTable rows) whole table)
