@@ -104,7 +104,7 @@ fn repeated(alloc: Global, tables: &mut Tables, line: &[u8]) -> Result<Vec<u8>, 
     let first = words.number()?;
     let last = words.number()?;
     let mut out = Vec::new(alloc);
-    for number in first..=last {
+    for number in first..last.saturating_add(1) {
         out = answer_of(alloc, tables, &numbered(alloc, words.rest(), number)?)?;
     }
     Ok(out)

@@ -5,9 +5,37 @@ ghost use Rattle.cp_group_state.specs.Rows.{find, name_cmp};
 use crate::end::End;
 use crate::shown::{show, show_found, show_names, show_number, show_numbered};
 use crate::words::Words;
-use cp_base::Name;
+use cp_base::{Items, Name};
 use cp_group_state::{Holder, LockRow};
 use cp_lock::{LockError, Locks, Released, Taken};
+
+/// The rows that all words spell, each by name, session, thread, fence, holds.
+fn rows(words: &mut Words) -> Result<Items<(Name, LockRow)>, End> {
+    let mut rows = Items::new(words.alloc());
+    for _ in 0..words.rest().len() {
+        if words.is_done() {
+            break;
+        }
+        let name = words.name()?;
+        let row = LockRow {
+            holder: words.holder()?,
+            fence: words.number()?,
+            holds: words.count()?,
+        };
+        rows.push((name, row))?;
+    }
+    Ok(rows)
+}
+
+fn from_rows(locks: &mut Locks, words: &mut Words, out: &mut Vec<u8>) -> Result<(), End> {
+    match Locks::from_rows(words.alloc(), rows(words)?)? {
+        Some(made) => {
+            *locks = made;
+            show(b"ok", out)
+        }
+        None => show(b"none", out),
+    }
+}
 
 fn acquire(locks: &mut Locks, words: &mut Words, out: &mut Vec<u8>) -> Result<(), End> {
     let index = words.number()?;
@@ -69,6 +97,7 @@ fn show_owner(owner: Option<&Holder>, out: &mut Vec<u8>) -> Result<(), End> {
 /// Makes the call that words spell, and shows its answer.
 pub fn answer(locks: &mut Locks, words: &mut Words, out: &mut Vec<u8>) -> Result<(), End> {
     match words.word()? {
+        b"from-rows" => from_rows(locks, words, out),
         b"acquire" => acquire(locks, words, out),
         b"release" => release(locks, words, out),
         b"grant" => grant(locks, words, out),

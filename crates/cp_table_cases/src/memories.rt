@@ -2,6 +2,7 @@
 use crate::end::End;
 use crate::shown::{show, show_answer, show_number};
 use crate::words::Words;
+use cp_base::Items;
 use cp_group_state::MemoryRow;
 use cp_ops::Answer;
 use cp_remembered::Memory;
@@ -14,6 +15,33 @@ fn state(words: &mut Words) -> Result<Option<Answer>, End> {
         return Ok(None);
     }
     Ok(Some(words.answer()?))
+}
+
+/// The rows that all words spell, each by session, thread, number, and `waits` or the answer.
+fn rows(words: &mut Words) -> Result<Items<((u64, u8), MemoryRow)>, End> {
+    let mut rows = Items::new(words.alloc());
+    for _ in 0..words.rest().len() {
+        if words.is_done() {
+            break;
+        }
+        let key = (words.number()?, words.byte()?);
+        let row = MemoryRow {
+            number: words.number()?,
+            answer: state(words)?,
+        };
+        rows.push((key, row))?;
+    }
+    Ok(rows)
+}
+
+fn from_rows(memory: &mut Memory, words: &mut Words, out: &mut Vec<u8>) -> Result<(), End> {
+    match Memory::from_rows(words.alloc(), rows(words)?)? {
+        Some(made) => {
+            *memory = made;
+            show(b"ok", out)
+        }
+        None => show(b"none", out),
+    }
 }
 
 fn remember(memory: &mut Memory, words: &mut Words, out: &mut Vec<u8>) -> Result<(), End> {
@@ -48,6 +76,7 @@ fn find(memory: &Memory, words: &mut Words, out: &mut Vec<u8>) -> Result<(), End
 /// Makes the call that words spell, and shows its answer.
 pub fn answer(memory: &mut Memory, words: &mut Words, out: &mut Vec<u8>) -> Result<(), End> {
     match words.word()? {
+        b"from-rows" => from_rows(memory, words, out),
         b"remember" => remember(memory, words, out),
         b"note" => note(memory, words, out),
         b"find" => find(memory, words, out),

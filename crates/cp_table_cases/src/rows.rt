@@ -4,17 +4,43 @@ ghost use Rattle.std.specs.Ordering.{nat_cmp};
 ghost use Rattle.cp_group_state.specs.Rows.{find};
 
 use crate::end::End;
-use crate::shown::{show, show_found, show_number};
+use crate::shown::{show, show_number};
 use crate::words::Words;
-use cp_rows::{put_row, write_row};
+use cp_base::Items;
+use cp_rows::{PushError, push_row, put_row, rising_rows, write_row};
 use std::collections::BTreeMap;
 
 /// Rows under numbers.
 pub type Rows = BTreeMap<u64, u8>;
 
+fn rising(rows: &mut Rows, words: &mut Words, out: &mut Vec<u8>) -> Result<(), End> {
+    let mut pairs = Items::new(words.alloc());
+    for _ in 0..words.rest().len() {
+        if words.is_done() {
+            break;
+        }
+        pairs.push((words.number()?, words.byte()?))?;
+    }
+    match rising_rows(words.alloc(), pairs)? {
+        Some(made) => {
+            *rows = made;
+            show(b"ok", out)
+        }
+        None => show(b"none", out),
+    }
+}
+
 fn put(rows: &mut Rows, words: &mut Words, out: &mut Vec<u8>) -> Result<(), End> {
     put_row(rows, words.number()?, words.byte()?)?;
     show(b"ok", out)
+}
+
+fn push(rows: &mut Rows, words: &mut Words, out: &mut Vec<u8>) -> Result<(), End> {
+    match push_row(rows, words.number()?, words.byte()?) {
+        Ok(()) => show(b"ok", out),
+        Err(PushError::OutOfOrder) => show(b"out-of-order", out),
+        Err(PushError::NoMemory) => Err(End::NoMemory),
+    }
 }
 
 fn has(rows: &BTreeMap<u64, u8>, key: u64) -> bool
@@ -34,14 +60,18 @@ fn write(rows: &mut Rows, words: &mut Words, out: &mut Vec<u8>) -> Result<(), En
 }
 
 fn get(rows: &Rows, words: &mut Words, out: &mut Vec<u8>) -> Result<(), End> {
-    let row = rows.get(&words.number()?).copied();
-    show_found(row.map(u64::from), out)
+    match rows.get(&words.number()?) {
+        Some(row) => show_number(u64::from(*row), out),
+        None => show(b"none", out),
+    }
 }
 
 /// Makes the call that words spell, and shows its answer.
 pub fn answer(rows: &mut Rows, words: &mut Words, out: &mut Vec<u8>) -> Result<(), End> {
     match words.word()? {
+        b"rising" => rising(rows, words, out),
         b"put" => put(rows, words, out),
+        b"push" => push(rows, words, out),
         b"write" => write(rows, words, out),
         b"get" => get(rows, words, out),
         b"count" => show_number(rows.len() as u64, out),

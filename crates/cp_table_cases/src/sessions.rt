@@ -2,7 +2,36 @@
 use crate::end::End;
 use crate::shown::{show, show_flag, show_found, show_number, show_numbered, show_numbers};
 use crate::words::Words;
+use cp_base::Items;
+use cp_group_state::SessionRow;
 use cp_session::{SessionError, Sessions};
+
+/// The rows that all words spell, each by session, client, version.
+fn rows(words: &mut Words) -> Result<Items<(u64, SessionRow)>, End> {
+    let mut rows = Items::new(words.alloc());
+    for _ in 0..words.rest().len() {
+        if words.is_done() {
+            break;
+        }
+        let session = words.number()?;
+        let row = SessionRow {
+            client: words.client()?,
+            version: words.number()?,
+        };
+        rows.push((session, row))?;
+    }
+    Ok(rows)
+}
+
+fn from_rows(sessions: &mut Sessions, words: &mut Words, out: &mut Vec<u8>) -> Result<(), End> {
+    match Sessions::from_rows(words.alloc(), rows(words)?)? {
+        Some(made) => {
+            *sessions = made;
+            show(b"ok", out)
+        }
+        None => show(b"none", out),
+    }
+}
 
 fn create(sessions: &mut Sessions, words: &mut Words, out: &mut Vec<u8>) -> Result<(), End> {
     let index = words.number()?;
@@ -33,6 +62,7 @@ fn is_open(sessions: &Sessions, words: &mut Words, out: &mut Vec<u8>) -> Result<
 /// Makes the call that words spell, and shows its answer.
 pub fn answer(sessions: &mut Sessions, words: &mut Words, out: &mut Vec<u8>) -> Result<(), End> {
     match words.word()? {
+        b"from-rows" => from_rows(sessions, words, out),
         b"create" => create(sessions, words, out),
         b"heartbeat" => show_found(sessions.heartbeat(words.number()?), out),
         b"close" => show_flag(sessions.close(words.number()?), out),
