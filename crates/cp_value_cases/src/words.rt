@@ -9,6 +9,7 @@ use cp_call_words::{
     Context, append_hex_word, append_name_word, append_signed_word, put_shown_user_op, put_user_op,
     take_group_word, take_hex_word, take_signed_word, take_user_op,
 };
+use cp_events::UserOp;
 use cp_grammar::{
     LINE, SPACE, append_number_word, append_word, is_token, take_members, take_number_word,
     take_token, take_word,
@@ -141,6 +142,28 @@ fn context_of(word: &str) -> Result<Context, CaseEnd> {
     Ok(Context { managed, members })
 }
 
+/// A call as it is written again, and what is left behind it.
+fn show_written(
+    alloc: Global,
+    context: Context,
+    op: &UserOp,
+    rest: &[u8],
+    out: &mut Vec<u8>,
+) -> Result<(), CaseEnd> {
+    let mut line = Vec::new(alloc);
+    put_user_op(context, op, &mut line)?;
+    append_line(line, out)?;
+    Ok(append_left(rest, out)?)
+}
+
+/// A call as a transcript shows it, and what is left behind it.
+fn show_printed(alloc: Global, op: &UserOp, rest: &[u8], out: &mut Vec<u8>) -> Result<(), CaseEnd> {
+    let mut line = Vec::new(alloc);
+    put_shown_user_op(op, &mut line)?;
+    append_line(line, out)?;
+    Ok(append_left(rest, out)?)
+}
+
 /// The call of a line, as it is written again.
 fn show_call(
     alloc: Global,
@@ -149,12 +172,7 @@ fn show_call(
     out: &mut Vec<u8>,
 ) -> Result<(), CaseEnd> {
     match take_user_op(alloc, context, bytes) {
-        Ok((op, rest)) => {
-            let mut line = Vec::new(alloc);
-            put_user_op(context, &op, &mut line)?;
-            append_line(line, out)?;
-            Ok(append_left(rest, out)?)
-        }
+        Ok((op, rest)) => show_written(alloc, context, &op, rest, out),
         Err(stop) => append_stop(stop, out),
     }
 }
@@ -167,12 +185,7 @@ fn show_shown(
     out: &mut Vec<u8>,
 ) -> Result<(), CaseEnd> {
     match take_user_op(alloc, context, bytes) {
-        Ok((op, rest)) => {
-            let mut line = Vec::new(alloc);
-            put_shown_user_op(&op, &mut line)?;
-            append_line(line, out)?;
-            Ok(append_left(rest, out)?)
-        }
+        Ok((op, rest)) => show_printed(alloc, &op, rest, out),
         Err(stop) => append_stop(stop, out),
     }
 }
