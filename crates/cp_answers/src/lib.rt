@@ -1,4 +1,4 @@
-//! Answers and refusals: types, bytes and texts.
+//! Apart from `cp_ops` for the time of its check alone: answers and refusals: types, bytes and texts.
 #![tactic(auto)]
 
 mod answer;

@@ -77,7 +77,8 @@ pub trait Disk {
     fn write_at(&mut self, at: u64, bytes: &[u8]) -> Result<(), Fault>
         requires { Told → at ≤ length (seen self.old) }
         ensures written { Told → OnOk result (seen self.new ≡ written (seen self.old) at bytes.now) }
-        ensures refused { Told → IsErrOf result fault.NoMemory → (seen self.new ≡ seen self.old) × NoMore (may_leave self.old) (may_leave self.new) }
+        ensures refused { Told → IsErrOf result fault.NoMemory → (seen self.new ≡ seen self.old) ×
+            NoMore (may_leave self.old) (may_leave self.new) }
         ensures crash { Told → Follows (Torn at (length bytes.now)) (may_leave self.old) (may_leave self.new) }
         ensures time { Told → Elapses (moment self.old) (moment self.new) (left_since self.old) (left_since self.new) (may_leave self.new) }
         ensures cause { CountsFaults (faults self.old) (faults self.new) (starved self.old) (starved self.new) result }
@@ -87,7 +88,8 @@ pub trait Disk {
     fn cut(&mut self, length: u64) -> Result<(), Fault>
         requires { Told → length ≤ Rattle.std.specs.Prelude.length (seen self.old) }
         ensures cut { Told → OnOk result (seen self.new ≡ take length (seen self.old)) }
-        ensures refused { Told → IsErrOf result fault.NoMemory → (seen self.new ≡ seen self.old) × NoMore (may_leave self.old) (may_leave self.new) }
+        ensures refused { Told → IsErrOf result fault.NoMemory → (seen self.new ≡ seen self.old) ×
+            NoMore (may_leave self.old) (may_leave self.new) }
         ensures crash { Told → Follows (Shortened length) (may_leave self.old) (may_leave self.new) }
         ensures time { Told → Elapses (moment self.old) (moment self.new) (left_since self.old) (left_since self.new) (may_leave self.new) }
         ensures cause { CountsFaults (faults self.old) (faults self.new) (starved self.old) (starved self.new) result }
@@ -103,7 +105,8 @@ pub trait Disk {
         ensures orders { orders self.new ≡ orders self.old };
 
     /// This moment is one of those since an earlier one.
-    ghost counts_now: { Told → (disk : Self) (since : ℕ) (image : List ℕ) → since ≤ moment disk → may_leave disk image → left_since disk since image };
+    ghost counts_now: { Told → (disk : Self) (since : ℕ) (image : List ℕ) → since ≤ moment disk → may_leave disk image →
+        left_since disk since image };
 
     /// Since this moment there is no other.
     ghost only_now: { Told → (disk : Self) (image : List ℕ) → left_since disk (moment disk) image → may_leave disk image };
@@ -125,7 +128,8 @@ pub trait CrashDisk: Disk {
         requires { Self.orders self.old < LAST_NUMBER }
         ensures image { Self.Told → Self.may_leave self.old (Self.seen self.new) }
         ensures only { Self.Told → Only (Self.seen self.new) (Self.may_leave self.new) }
-        ensures time { Self.Told → Elapses (Self.moment self.old) (Self.moment self.new) (Self.left_since self.old) (Self.left_since self.new) (Self.may_leave self.new) }
+        ensures time { Self.Told → Elapses (Self.moment self.old) (Self.moment self.new) (Self.left_since self.old)
+            (Self.left_since self.new) (Self.may_leave self.new) }
         ensures orders { Self.orders self.new ≡ Self.orders self.old + 1 }
         ensures counts { (Self.faults self.new ≡ Self.faults self.old) × (Self.starved self.new ≡ Self.starved self.old) }
         ensures ended { stop self.new ≡ None };
@@ -134,8 +138,10 @@ pub trait CrashDisk: Disk {
     fn stop_after(&mut self, calls: u64)
         requires { Self.orders self.old < LAST_NUMBER }
         ensures seen { Self.Told → Self.seen self.new ≡ Self.seen self.old }
-        ensures crash { Self.Told → NoMore (Self.may_leave self.old) (Self.may_leave self.new) × NoMore (Self.may_leave self.new) (Self.may_leave self.old) }
-        ensures time { Self.Told → Elapses (Self.moment self.old) (Self.moment self.new) (Self.left_since self.old) (Self.left_since self.new) (Self.may_leave self.new) }
+        ensures crash { Self.Told → NoMore (Self.may_leave self.old) (Self.may_leave self.new) ×
+            NoMore (Self.may_leave self.new) (Self.may_leave self.old) }
+        ensures time { Self.Told → Elapses (Self.moment self.old) (Self.moment self.new) (Self.left_since self.old)
+            (Self.left_since self.new) (Self.may_leave self.new) }
         ensures orders { Self.orders self.new ≡ Self.orders self.old + 1 }
         ensures counts { (Self.faults self.new ≡ Self.faults self.old) × (Self.starved self.new ≡ Self.starved self.old) }
         ensures armed { is_struck self.new ≡ false }

@@ -1,5 +1,6 @@
-//! Why the state machine of a group gives an answer that a call didn't hope for, as definitions, and that each such answer
-//! has its cause in the history. No code: the function below states the law.
+//! Apart from `cp_group_state` for the time of its check alone: why the state machine of a group gives an answer that
+//! a call didn't hope for, as definitions, and that each such answer has its cause in the history. No code: the
+//! function below states the law.
 #![tactic(auto)]
 
 ghost use Rattle.cp_group_causes.specs.Laws.{AnswersHaveCauses};

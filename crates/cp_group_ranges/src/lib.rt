@@ -1,5 +1,6 @@
-//! Every state that a group's history reaches, and every answer that it gives, can be spelled. No code: the functions
-//! below state laws of the state machine of `cp_group_state`, over the formats of `cp_ops` and `cp_answers`.
+//! Apart from `cp_group_state` for the time of its check alone: every state that a group's history reaches, and every
+//! answer that it gives, can be spelled. No code: the functions below state laws of the state machine of
+//! `cp_group_state`, over the formats of `cp_ops` and `cp_answers`.
 #![tactic(auto)]
 
 ghost use Rattle.cp_group_ranges.specs.Laws.{FirstStateIsSound, EntriesKeepStatesSound, HistoriesAreSound, SoundHoldingsStand};

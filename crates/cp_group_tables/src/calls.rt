@@ -140,8 +140,10 @@ impl GroupTables {
         session: u64,
         out: &mut Items<(Invocation, Answer)>,
     ) -> Result<(), NoMemory>
-        ensures state { OnOk result (self.new ≡ (by_memory index call.now op.now (find holder_cmp self.old.memory (session, call.now.thread.0)) self.old).state) }
-        ensures told { OnOk result (out.new ≡ out.old ++ (by_memory index call.now op.now (find holder_cmp self.old.memory (session, call.now.thread.0)) self.old).answers) }
+        ensures state { OnOk result (self.new ≡ (by_memory index call.now op.now
+            (find holder_cmp self.old.memory (session, call.now.thread.0)) self.old).state) }
+        ensures told { OnOk result (out.new ≡ out.old ++ (by_memory index call.now op.now
+            (find holder_cmp self.old.memory (session, call.now.thread.0)) self.old).answers) }
     {
         match look_back(&self.memory, session, call)? {
             Recall::New => self.perform(index, call, op, out),
@@ -180,9 +182,11 @@ impl GroupTables {
         call: &Invocation,
         out: &mut Items<(Invocation, Answer)>,
     ) -> Result<Items<Waiter>, NoMemory>
-        ensures ended { IfOk result (λ ended. ended_by (ending.Cancelled call.now.number) ended ≡ (end_all (is_older call.now) (λ w. answer.WaitCancelled call.now.number) self.old).ended) }
+        ensures ended { IfOk result (λ ended. ended_by (ending.Cancelled call.now.number)
+            ended ≡ (end_all (is_older call.now) (λ w. answer.WaitCancelled call.now.number) self.old).ended) }
         ensures state { OnOk result (self.new ≡ (end_all (is_older call.now) (λ w. answer.WaitCancelled call.now.number) self.old).state) }
-        ensures told { OnOk result (out.new ≡ out.old ++ told (end_all (is_older call.now) (λ w. answer.WaitCancelled call.now.number) self.old).ended) }
+        ensures told { OnOk result (out.new ≡ out.old ++ told
+            (end_all (is_older call.now) (λ w. answer.WaitCancelled call.now.number) self.old).ended) }
     {
         let older = self.waits.older(call)?;
         self.end(older.as_slice(), Ending::Cancelled(call.number), out)?;

@@ -61,9 +61,12 @@ impl GroupTables {
         sessions: &[u64],
         out: &mut Items<(Invocation, Answer)>,
     ) -> Result<Items<Waiter>, NoMemory>
-        ensures ended { IfOk result (λ ended. ended_by ending.SessionExpired ended ≡ waiters.ending (λ w. is_among sessions.now w.session) (λ w. answer.SessionExpired w.session) self.old.waiters) }
-        ensures state { OnOk result (self.new ≡ (end_all (λ w. is_among sessions.now w.session) (λ w. answer.SessionExpired w.session) self.old).state) }
-        ensures told { OnOk result (out.new ≡ out.old ++ told (end_all (λ w. is_among sessions.now w.session) (λ w. answer.SessionExpired w.session) self.old).ended) }
+        ensures ended { IfOk result (λ ended. ended_by ending.SessionExpired ended ≡ waiters.ending
+            (λ w. is_among sessions.now w.session) (λ w. answer.SessionExpired w.session) self.old.waiters) }
+        ensures state { OnOk result (self.new ≡ (end_all (λ w. is_among sessions.now w.session)
+            (λ w. answer.SessionExpired w.session) self.old).state) }
+        ensures told { OnOk result (out.new ≡ out.old ++ told
+            (end_all (λ w. is_among sessions.now w.session) (λ w. answer.SessionExpired w.session) self.old).ended) }
     {
         let ended = self.waits.of_sessions(sessions)?;
         self.end(ended.as_slice(), Ending::SessionExpired, out)?;

@@ -47,7 +47,8 @@ impl GroupTables {
         out: &mut Items<(Invocation, Answer)>,
     ) -> Result<(), NoMemory>
         ensures state { OnOk result (self.new ≡ (timed_out call.now self.old).state) }
-        ensures ended { OnOk result (ended_by ending.TimedOut ended.new ≡ ended_by ending.TimedOut ended.old ++ (timed_out call.now self.old).ended) }
+        ensures ended { OnOk result (ended_by ending.TimedOut ended.new ≡ ended_by ending.TimedOut
+            ended.old ++ (timed_out call.now self.old).ended) }
         ensures told { OnOk result (out.new ≡ out.old ++ told (timed_out call.now self.old).ended) }
     {
         let late = self.waits.of_call(call)?;
@@ -99,7 +100,9 @@ impl GroupTables {
 
     /// A group that is destroyed stays so, under its first number.
     fn mark_destroyed(&mut self, group: GroupId)
-        ensures { self.new ≡ record self.old { destroyed_group = if self.old.destroyed_group.0 == 0 then group else self.old.destroyed_group } }
+        ensures { self.new ≡ record self.old {
+          destroyed_group = if self.old.destroyed_group.0 == 0 then group else self.old.destroyed_group;
+        } }
     {
         if self.destroyed_group.0 == 0 {
             self.destroyed_group = group;

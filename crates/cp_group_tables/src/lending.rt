@@ -35,7 +35,19 @@ impl GroupTables {
         waits: Waits,
         memory: Memory,
     ) -> GroupTables
-        ensures { result ≡ record { destroyed_group = destroyed_group; sessions = sessions; locks = objects.locks; semaphores = objects.semaphores; latches = objects.latches; longs = objects.longs; refs = objects.refs; maps = objects.maps; gone = objects.gone; waiters = waits; memory = memory } }
+        ensures { result ≡ record {
+          destroyed_group = destroyed_group;
+          sessions = sessions;
+          locks = objects.locks;
+          semaphores = objects.semaphores;
+          latches = objects.latches;
+          longs = objects.longs;
+          refs = objects.refs;
+          maps = objects.maps;
+          gone = objects.gone;
+          waiters = waits;
+          memory = memory;
+        } }
     {
         GroupTables {
             alloc,

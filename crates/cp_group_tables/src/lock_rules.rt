@@ -36,9 +36,11 @@ impl GroupTables {
         limit: u32,
         wish: Wish,
     ) -> Result<Reply, NoMemory>
-        ensures state { OnOk result (self.new ≡ (lock_rule index call.now name.now (lock.Acquire session limit wish) self.old).change.state) }
+        ensures state { OnOk result (self.new ≡ (lock_rule index call.now name.now (lock.Acquire session limit wish)
+            self.old).change.state) }
         ensures ended { OnOk result ((lock_rule index call.now name.now (lock.Acquire session limit wish) self.old).change.ended ≡ []) }
-        ensures reply { IfOk result (λ reply. IsReply call.now reply (lock_rule index call.now name.now (lock.Acquire session limit wish) self.old).reply) }
+        ensures reply { IfOk result (λ reply. IsReply call.now reply
+            (lock_rule index call.now name.now (lock.Acquire session limit wish) self.old).reply) }
     {
         let who = Holder {
             session,
@@ -73,8 +75,10 @@ impl GroupTables {
         out: &mut Items<(Invocation, Answer)>,
     ) -> Result<Answer, NoMemory>
         ensures state { OnOk result (self.new ≡ (lock_rule index call.now name.now (lock.Release session) self.old).change.state) }
-        ensures told { OnOk result (out.new ≡ out.old ++ told (lock_rule index call.now name.now (lock.Release session) self.old).change.ended) }
-        ensures reply { IfOk result (λ answer. (lock_rule index call.now name.now (lock.Release session) self.old).reply ≡ Answered answer) }
+        ensures told { OnOk result (out.new ≡ out.old ++ told
+            (lock_rule index call.now name.now (lock.Release session) self.old).change.ended) }
+        ensures reply { IfOk result (λ answer. (lock_rule index call.now name.now (lock.Release session) self.old).reply ≡ Answered
+            answer) }
     {
         let who = Holder {
             session,

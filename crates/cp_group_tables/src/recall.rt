@@ -30,7 +30,8 @@ fn copy_of(answer: &Option<Answer>) -> Result<Option<Answer>, NoMemory>
 
 /// What the thread's last call says of this one.
 fn compare(row: &MemoryRow, call: &Invocation) -> Result<Recall, NoMemory>
-    ensures { IfOk result (λ r. (index : ℕ) (o : Op) (s : GroupState) → by_memory index call.now o (Some row.now) s ≡ recalled r index call.now o s) }
+    ensures { IfOk result (λ r. (index : ℕ) (o : Op) (s : GroupState) →
+        by_memory index call.now o (Some row.now) s ≡ recalled r index call.now o s) }
 {
     if row.number == call.number {
         return Ok(Recall::Again(copy_of(&row.answer)?));
@@ -43,7 +44,9 @@ fn compare(row: &MemoryRow, call: &Invocation) -> Result<Recall, NoMemory>
 
 /// What is remembered of a call in a session.
 pub fn look_back(memory: &Memory, session: u64, call: &Invocation) -> Result<Recall, NoMemory>
-    ensures { IfOk result (λ r. (index : ℕ) (o : Op) (s : GroupState) → by_memory index call.now o (find holder_cmp memory.now (session, call.now.thread.0)) s ≡ recalled r index call.now o s) }
+    ensures { IfOk result (λ r. (index : ℕ) (o : Op) (s : GroupState) →
+        by_memory index call.now o (find holder_cmp memory.now (session, call.now.thread.0)) s ≡ recalled r index
+        call.now o s) }
 {
     match memory.find(session, call.thread) {
         Some(row) => compare(row, call),

@@ -43,11 +43,14 @@ impl<D: Disk> Journal<D> {
     /// what stands behind that gate.
     pub fn open(alloc: Global, disk: D) -> Result<(Journal<D>, Vec<Vec<u8>>), (D, JournalError)>
         ensures opened { IfOk result (λ opened. is_spent opened.0 ≡ false) }
-        ensures records { D.Told → IfOk result (λ opened. IsOpened (lists opened.1.items) (end_of opened.0) (D.seen disk) (D.seen (disk_of opened.0)) (D.may_leave (disk_of opened.0))) }
+        ensures records { D.Told → IfOk result (λ opened. IsOpened (lists opened.1.items) (end_of opened.0) (D.seen disk)
+            (D.seen (disk_of opened.0)) (D.may_leave (disk_of opened.0))) }
 
         // A crash at any moment of the call leaves what it could leave before, or the same records.
-        ensures any_moment { D.Told → MatchResult result (λ opened. Opens D.Disk disk (disk_of opened.0)) (λ refused. Opens D.Disk disk refused.0) }
-        ensures cause { IfErr result (λ refused. OpenCause (D.faults disk) (D.faults refused.0) D.Told (records_of (D.seen disk)) refused.1) }
+        ensures any_moment { D.Told → MatchResult result (λ opened. Opens D.Disk disk (disk_of opened.0))
+            (λ refused. Opens D.Disk disk refused.0) }
+        ensures cause { IfErr result (λ refused. OpenCause (D.faults disk) (D.faults refused.0) D.Told (records_of (D.seen disk))
+            refused.1) }
 
         // A disk that was empty, and that journals alone wrote, has no bad frame.
         ensures own { D.Told → IsOwn D.Disk disk → IfErr result (λ refused. (place : ℕ) → refused.1 ≢ error.BadFrame place) }
@@ -74,11 +77,14 @@ impl<D: Disk> Journal<D> {
         requires whole { self.old.spent ≡ false }
         requires room { self.old.end + length bytes.now ≤ FILE_LIMIT }
         requires body { (body : List ℕ) × IsBody body × (bytes.now ≡ record_bytes body) }
-        ensures appended { (body : List ℕ) → IsBody body → bytes.now ≡ record_bytes body → D.Told → OnOk result (records_of (D.seen self.new.disk) ≡ and_record (records_of (D.seen self.old.disk)) body) }
+        ensures appended { (body : List ℕ) → IsBody body → bytes.now ≡ record_bytes body → D.Told →
+            OnOk result (records_of (D.seen self.new.disk) ≡ and_record (records_of (D.seen self.old.disk)) body) }
         ensures refused { D.Told → IsErrOf result error.NoMemory → records_of (D.seen self.new.disk) ≡ records_of (D.seen self.old.disk) }
-        ensures any_moment { (body : List ℕ) → IsBody body → bytes.now ≡ record_bytes body → D.Told → Appends D.Disk body self.old.disk self.new.disk }
+        ensures any_moment { (body : List ℕ) → IsBody body → bytes.now ≡ record_bytes body → D.Told →
+            Appends D.Disk body self.old.disk self.new.disk }
         ensures ok { OnOk result ((self.new.spent ≡ false) × (self.new.end ≡ self.old.end + length bytes.now)) }
-        ensures starved { IsErrOf result error.NoMemory → (self.new.spent ≡ false) × ((self.new.end ≡ self.old.end) × Rose (D.starved self.old.disk) (D.starved self.new.disk)) }
+        ensures starved { IsErrOf result error.NoMemory → (self.new.spent ≡ false) ×
+            ((self.new.end ≡ self.old.end) × Rose (D.starved self.old.disk) (D.starved self.new.disk)) }
         ensures fault { IsErrOf result error.DiskFault → self.new.spent ≡ true }
         ensures not_full { IsErrOf result error.Full → ⊥ }
         ensures not_bad { (place : ℕ) → IsErrOf result (error.BadFrame place) → ⊥ }
@@ -104,7 +110,8 @@ impl<D: Disk> Journal<D> {
     pub fn append(&mut self, alloc: Global, body: &[u8]) -> Result<(), JournalError>
         requires body { IsBody body.now }
         requires whole { is_spent self.old ≡ false }
-        ensures appended { D.Told → OnOk result (records_of (D.seen (disk_of self.new)) ≡ and_record (records_of (D.seen (disk_of self.old))) body.now) }
+        ensures appended { D.Told → OnOk result (records_of (D.seen (disk_of self.new)) ≡ and_record
+            (records_of (D.seen (disk_of self.old))) body.now) }
         ensures durable { D.Told → is_spent self.new ≡ false → Only (D.seen (disk_of self.new)) (D.may_leave (disk_of self.new)) }
 
         // A crash at any moment of the call leaves the records from before it, with the new one or without.
@@ -113,12 +120,15 @@ impl<D: Disk> Journal<D> {
         ensures ok { OnOk result ((is_spent self.new ≡ false) × (end_of self.new ≡ end_of self.old + (length body.now + 5))) }
         ensures starved { IsErrOf result error.NoMemory → (is_spent self.new ≡ false) × (end_of self.new ≡ end_of self.old) }
         ensures fault { IsErrOf result error.DiskFault → is_spent self.new ≡ true }
-        ensures kept { D.Told → IsErrOf result error.NoMemory → records_of (D.seen (disk_of self.new)) ≡ records_of (D.seen (disk_of self.old)) }
+        ensures kept { D.Told → IsErrOf result error.NoMemory →
+            records_of (D.seen (disk_of self.new)) ≡ records_of (D.seen (disk_of self.old)) }
 
         // A small record takes memory of the disk alone.
-        ensures frugal { length body.now ≤ SMALL → IsErrOf result error.NoMemory → Rose (D.starved (disk_of self.old)) (D.starved (disk_of self.new)) }
+        ensures frugal { length body.now ≤ SMALL → IsErrOf result error.NoMemory →
+            Rose (D.starved (disk_of self.old)) (D.starved (disk_of self.new)) }
         ensures full { IsErrOf result error.Full ↔ (FILE_LIMIT < end_of self.old + (length body.now + 5)) }
-        ensures full_kept { IsErrOf result error.Full → (disk_of self.new ≡ disk_of self.old) × ((is_spent self.new ≡ false) × (end_of self.new ≡ end_of self.old)) }
+        ensures full_kept { IsErrOf result error.Full → (disk_of self.new ≡ disk_of self.old) ×
+            ((is_spent self.new ≡ false) × (end_of self.new ≡ end_of self.old)) }
         ensures not_bad { (place : ℕ) → IsErrOf result (error.BadFrame place) → ⊥ }
         ensures cause { CountsDisk D.Disk (disk_of self.old) (disk_of self.new) result }
     {
@@ -166,9 +176,12 @@ impl<D: CrashDisk> Journal<D> {
         ensures seen { D.Disk.Told → D.Disk.seen (disk_of self.new) ≡ D.Disk.seen (disk_of self.old) }
         ensures crash { D.Disk.Told → NoMore (D.Disk.may_leave (disk_of self.old)) (D.Disk.may_leave (disk_of self.new))
             × NoMore (D.Disk.may_leave (disk_of self.new)) (D.Disk.may_leave (disk_of self.old)) }
-        ensures time { D.Disk.Told → Elapses (D.Disk.moment (disk_of self.old)) (D.Disk.moment (disk_of self.new)) (D.Disk.left_since (disk_of self.old)) (D.Disk.left_since (disk_of self.new)) (D.Disk.may_leave (disk_of self.new)) }
+        ensures time { D.Disk.Told → Elapses (D.Disk.moment (disk_of self.old)) (D.Disk.moment (disk_of self.new))
+            (D.Disk.left_since (disk_of self.old)) (D.Disk.left_since (disk_of self.new))
+            (D.Disk.may_leave (disk_of self.new)) }
         ensures orders { D.Disk.orders (disk_of self.new) ≡ D.Disk.orders (disk_of self.old) + 1 }
-        ensures counts { (D.Disk.faults (disk_of self.new) ≡ D.Disk.faults (disk_of self.old)) × (D.Disk.starved (disk_of self.new) ≡ D.Disk.starved (disk_of self.old)) }
+        ensures counts { (D.Disk.faults (disk_of self.new) ≡ D.Disk.faults (disk_of self.old)) ×
+            (D.Disk.starved (disk_of self.new) ≡ D.Disk.starved (disk_of self.old)) }
         ensures armed { D.is_struck (disk_of self.new) ≡ false }
         ensures stop { D.stop (disk_of self.new) ≡ Some calls }
         ensures others { (is_spent self.new ≡ is_spent self.old) × (end_of self.new ≡ end_of self.old) }

@@ -65,7 +65,8 @@ fn whole_size<D: Disk>(disk: &mut D, gate: u64, len: u64) -> Result<Option<u64>,
     requires within { gate < len }
     requires told { D.Told → len ≡ length (D.seen disk.old) }
     requires durable { IsSynced D.Disk disk.old }
-    ensures size { D.Told → IfOk result (λ size. size ≡ (if is_whole gate (D.seen disk.old) then Some (size_at gate (D.seen disk.old)) else None)) }
+    ensures size { D.Told → IfOk result (λ size. size ≡ (if is_whole gate (D.seen disk.old) then Some
+        (size_at gate (D.seen disk.old)) else None)) }
     ensures fits { IfOk result (λ size. IfSome size (λ n. gate + 5 + n < len)) }
     ensures stays { IsStill D.Disk disk.old disk.new }
     ensures cause { CountsRun D.Disk disk.old disk.new result }

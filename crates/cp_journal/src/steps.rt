@@ -26,7 +26,8 @@ pub(crate) fn write_synced<D: Disk>(disk: &mut D, at: u64, bytes: &[u8]) -> Resu
     requires durable { IsSynced D.Disk disk.old }
     ensures written { D.Told → OnOk result (D.seen disk.new ≡ written (D.seen disk.old) at bytes.now) }
     ensures durable { D.Told → OnOk result (Only (D.seen disk.new) (D.may_leave disk.new)) }
-    ensures refused { D.Told → IsErrOf result fault.NoMemory → (D.seen disk.new ≡ D.seen disk.old) × Only (D.seen disk.old) (D.may_leave disk.new) }
+    ensures refused { D.Told → IsErrOf result fault.NoMemory → (D.seen disk.new ≡ D.seen disk.old) ×
+        Only (D.seen disk.old) (D.may_leave disk.new) }
     ensures any_moment { D.Told → LeavesOnly D.moment D.left_since disk.old disk.new (Torn at (length bytes.now) (D.seen disk.old)) }
     ensures cause { CountsRun D.Disk disk.old disk.new result }
 {

@@ -38,7 +38,8 @@ fn has(known: &HashSet<Invocation>, call: &Invocation) -> bool
 
 /// Puts a call into a set, or leaves the set.
 fn learn(known: &mut HashSet<Invocation>, call: &Invocation) -> Result<(), NoMemory>
-    ensures ok { OnOk result ((other : Invocation) → is_among other known.new.keys ≡ (is_among other known.old.keys || same_call other call.now)) }
+    ensures ok { OnOk result ((other : Invocation) → is_among other
+        known.new.keys ≡ (is_among other known.old.keys || same_call other call.now)) }
     ensures err { OnErr result (known.new.keys ≡ known.old.keys) }
 {
     known.insert(*call)?;

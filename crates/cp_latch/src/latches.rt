@@ -63,7 +63,8 @@ fn set(
 ) -> Result<Answer, NoMemory>
     requires { total.old ≡ counted_calls rows.old.entries }
     ensures rows { OnOk result (rows.new.entries ≡ (set_latch rows.old.entries name.now (latch_at rows.old.entries name.now) count).after) }
-    ensures answer { IfOk result (λ answer. (set_latch rows.old.entries name.now (latch_at rows.old.entries name.now) count).outcome ≡ Done answer) }
+    ensures answer { IfOk result (λ answer. (set_latch rows.old.entries name.now (latch_at rows.old.entries name.now) count).outcome
+        ≡ Done answer) }
     ensures err { OnErr result (rows.new.entries ≡ rows.old.entries) }
     ensures total { total.new ≡ counted_calls rows.new.entries }
 {
@@ -86,8 +87,10 @@ fn count_down(
     round: u64,
 ) -> Result<LatchOutcome, NoMemory>
     requires { total.old ≡ counted_calls rows.old.entries }
-    ensures rows { OnOk result (rows.new.entries ≡ (count_down rows.old.entries name.now call.now round (latch_at rows.old.entries name.now)).after) }
-    ensures outcome { IfOk result (λ outcome. IsOutcome outcome (count_down rows.old.entries name.now call.now round (latch_at rows.old.entries name.now)).outcome) }
+    ensures rows { OnOk result (rows.new.entries ≡ (count_down rows.old.entries name.now call.now round
+        (latch_at rows.old.entries name.now)).after) }
+    ensures outcome { IfOk result (λ outcome. IsOutcome outcome
+        (count_down rows.old.entries name.now call.now round (latch_at rows.old.entries name.now)).outcome) }
     ensures err { OnErr result (rows.new.entries ≡ rows.old.entries) }
     ensures total { total.new ≡ counted_calls rows.new.entries }
 {

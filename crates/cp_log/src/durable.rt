@@ -99,7 +99,10 @@ impl Durable {
         first: Items<u8>,
     ) -> Result<Change, NoMemory>
         requires { group_at (durable_of self.old) group ≡ None }
-        ensures ok { IfOk result (λ change. IsReady change self.new (durable_of self.old) (record (durable_of self.old) { groups = insert_entry nat_cmp (durable_of self.old).groups group (new_group first) })) }
+        ensures ok { IfOk result (λ change. IsReady change self.new (durable_of self.old)
+            (record (durable_of self.old) {
+              groups = insert_entry nat_cmp (durable_of self.old).groups group (new_group first);
+            })) }
         ensures err { OnErr result (durable_of self.new ≡ durable_of self.old) }
     {
         match insert_row(alloc, &mut self.rows, group, first) {
@@ -121,7 +124,11 @@ impl Durable {
     /// Puts a group among those that have ended.
     pub fn prepare_end(&mut self, group: u64) -> Result<Change, NoMemory>
         requires { has_ended (durable_of self.old) group ≡ false }
-        ensures ok { IfOk result (λ change. IsReady change self.new (durable_of self.old) (record (durable_of self.old) { groups = remove_entry (is_at (nat_cmp group)) (durable_of self.old).groups; ended = insert_key nat_cmp (durable_of self.old).ended group })) }
+        ensures ok { IfOk result (λ change. IsReady change self.new (durable_of self.old)
+            (record (durable_of self.old) {
+              groups = remove_entry (is_at (nat_cmp group)) (durable_of self.old).groups;
+              ended = insert_key nat_cmp (durable_of self.old).ended group;
+            })) }
         ensures err { OnErr result (durable_of self.new ≡ durable_of self.old) }
     {
         match insert_ended(&mut self.ended, group) {

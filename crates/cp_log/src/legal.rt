@@ -33,7 +33,8 @@ impl Durable {
 
     /// Whether a group stands that may put so many entries behind an index.
     fn may_append(&self, group: u64, term: u64, after: u64, count: usize) -> bool
-        ensures { (entries : List Entry) → length entries ≡ count → result ≡ legal.if_stands (legal.may_append term after entries) (group_at (durable_of self.now) group) }
+        ensures { (entries : List Entry) → length entries ≡ count →
+            result ≡ legal.if_stands (legal.may_append term after entries) (group_at (durable_of self.now) group) }
     {
         match self.row(group) {
             Some(row) => {
@@ -55,7 +56,8 @@ impl Durable {
         index: u64,
         bytes: &[u8],
     ) -> Result<bool, NoMemory>
-        ensures { IfOk result (λ is. is ≡ legal.if_stands (legal.may_snapshot term index bytes.now) (group_at (durable_of self.now) group)) }
+        ensures { IfOk result (λ is. is ≡ legal.if_stands (legal.may_snapshot term index bytes.now)
+            (group_at (durable_of self.now) group)) }
     {
         let head = head_of_snapshot(alloc, bytes)?;
         match self.row(group) {

@@ -24,7 +24,8 @@ fn push_config(
     bytes: &[u8],
     configs: &mut VecDeque<Config>,
 ) -> Result<(), NoMemory>
-    ensures { OnOk result ((rest : List Configuration) → configs.old.items ++ with_config (config_in index bytes.now) rest ≡ configs.new.items ++ rest) }
+    ensures { OnOk result ((rest : List Configuration) →
+        configs.old.items ++ with_config (config_in index bytes.now) rest ≡ configs.new.items ++ rest) }
 {
     match config_of_entry(alloc, index, bytes)? {
         Some(config) => configs.push_back(config)?,
@@ -65,7 +66,8 @@ impl Durable {
         entries: Items<LogEntry>,
     ) -> Result<Change, NoMemory>
         requires { if_stands (may_append term after entries) (group_at (durable_of self.old) group) ≡ true }
-        ensures ok { IfOk result (λ change. IsReady change self.new (durable_of self.old) (with_group group (with_entries term vote after entries) (durable_of self.old))) }
+        ensures ok { IfOk result (λ change. IsReady change self.new (durable_of self.old)
+            (with_group group (with_entries term vote after entries) (durable_of self.old))) }
         ensures err { OnErr result (durable_of self.new ≡ durable_of self.old) }
     {
         let list = entries.into_vec();
@@ -87,7 +89,8 @@ impl Durable {
     ) -> Result<Change, NoMemory>
         requires legal { if_stands (may_snapshot term index bytes) (group_at (durable_of self.old) group) ≡ true }
         requires most { index ≤ LAST_NUMBER }
-        ensures ok { IfOk result (λ change. IsReady change self.new (durable_of self.old) (with_group group (with_snapshot term vote index bytes) (durable_of self.old))) }
+        ensures ok { IfOk result (λ change. IsReady change self.new (durable_of self.old)
+            (with_group group (with_snapshot term vote index bytes) (durable_of self.old))) }
         ensures err { OnErr result (durable_of self.new ≡ durable_of self.old) }
     {
         match head_of_snapshot(alloc, bytes.as_slice())? {

@@ -120,7 +120,8 @@ impl<D: Disk> Store<D> {
     /// The bytes of the snapshot; none where the base is 0.
     pub fn snapshot(&self, group: GroupId) -> Option<&[u8]>
         requires { has_group (held_by self.now) group.0 ≡ true }
-        ensures { option_copied result ≡ (if (group_in (held_by self.now) group.0).base == 0 then None else Some (group_in (held_by self.now) group.0).snapshot) }
+        ensures { option_copied result ≡ (if (group_in (held_by self.now) group.0).base == 0 then None else Some
+            (group_in (held_by self.now) group.0).snapshot) }
     {
         let row = self.row(group);
         if row.base == 0 {

@@ -42,7 +42,8 @@ pub struct Store<D: Disk> {
     size: u8,
     spent: bool,
     ghost whole: { spent ≡ false → journals.is_spent journal ≡ false },
-    ghost fold: { spent ≡ false → D.Told → file_state (first_state managed size) (D.seen (journals.disk_of journal)) ≡ Ok (durable_of state) },
+    ghost fold: { spent ≡ false → D.Told → file_state (first_state managed size) (D.seen (journals.disk_of journal)) ≡ Ok
+        (durable_of state) },
 }
 
 /// Why a journal was not opened.
@@ -94,7 +95,8 @@ fn prepare_copy(alloc: Global, state: &mut Durable, part: &Part) -> Result<Chang
 /// Applies a change, or gives it up.
 fn settle(state: &mut Durable, change: Change, applies: bool)
     requires { Fits change state.old }
-    ensures { durable_of state.new ≡ (if applies then committed change (durable_of state.old) else cancelled change (durable_of state.old)) }
+    ensures { durable_of state.new ≡ (if applies then committed change (durable_of state.old) else cancelled change
+        (durable_of state.old)) }
 {
     if applies {
         state.apply(change);
@@ -125,18 +127,22 @@ impl<D: Disk> Store<D> {
         ensures spent { is_spent self.new ≡ is_fault result }
 
         // A crash at any moment of the call leaves the parts from before it, with the new one or without.
-        ensures any_moment { D.Told → LeavesOnly D.moment D.left_since (disk_of self.old) (disk_of self.new) (StandsForEither (first_of self.old) (held_by self.old) (with_part part.now (held_by self.old))) }
+        ensures any_moment { D.Told → LeavesOnly D.moment D.left_since (disk_of self.old) (disk_of self.new)
+            (StandsForEither (first_of self.old) (held_by self.old) (with_part part.now (held_by self.old))) }
         ensures durable { D.Told → is_spent self.new ≡ false → Only (D.seen (disk_of self.new)) (D.may_leave (disk_of self.new)) }
 
         ensures sound { D.Told → LeavesOnly D.moment D.left_since (disk_of self.old) (disk_of self.new) (IsSound (first_of self.old)) }
 
         // A State takes memory of the disk alone.
-        ensures frugal { is_state part.now ≡ true → IsErrOf result error.NoMemory → Rose (D.starved (disk_of self.old)) (D.starved (disk_of self.new)) }
+        ensures frugal { is_state part.now ≡ true → IsErrOf result error.NoMemory →
+            Rose (D.starved (disk_of self.old)) (D.starved (disk_of self.new)) }
 
         // It is full exactly where the file would pass 2^30 bytes, unless memory runs out before.
         ensures full { IsErrOf result error.Full → FILE_LIMIT < bytes_of self.old + (length (part_grammar.spelling part.now) + 5) }
-        ensures only_full { FILE_LIMIT < bytes_of self.old + (length (part_grammar.spelling part.now) + 5) → IsErrOf result error.Full ⊎ IsErrOf result error.NoMemory }
-        ensures bytes { bytes_of self.new ≡ (if is_ok result then bytes_of self.old + (length (part_grammar.spelling part.now) + 5) else bytes_of self.old) ⊎ IsErrOf result error.DiskFault }
+        ensures only_full { FILE_LIMIT < bytes_of self.old + (length (part_grammar.spelling part.now) + 5) → IsErrOf result error.Full ⊎
+            IsErrOf result error.NoMemory }
+        ensures bytes { bytes_of self.new ≡ (if is_ok result then bytes_of self.old + (length (part_grammar.spelling part.now) + 5)
+            else bytes_of self.old) ⊎ IsErrOf result error.DiskFault }
         ensures cause { Counts D.Disk (disk_of self.old) (disk_of self.new) result }
         ensures orders { D.orders (disk_of self.new) ≡ D.orders (disk_of self.old) }
     {
@@ -166,18 +172,24 @@ impl<D: Disk> Store<D> {
         ensures opened { IfOk result (λ store. (is_spent store ≡ false) × (first_of store ≡ first_state managed size)) }
 
         // The store stands for what the file stood for, with one start more.
-        ensures state { D.Told → IfOk result (λ store. IfOkState (file_state (first_state managed size) (D.seen disk)) (λ before. held_by store ≡ started before)) }
+        ensures state { D.Told → IfOk result (λ store. IfOkState (file_state (first_state managed size) (D.seen disk))
+            (λ before. held_by store ≡ started before)) }
 
         // A crash at any moment of the call leaves what it could leave before, or the same parts, or these with the start.
         ensures any_moment { D.Told → MatchResult result
-            (λ store. LeavesOnly D.moment D.left_since disk (disk_of store) (IsOpening (D.may_leave disk) (first_state managed size) (D.seen disk)))
-            (λ refused. LeavesOnly D.moment D.left_since disk refused.0 (IsOpening (D.may_leave disk) (first_state managed size) (D.seen disk))) }
+            (λ store. LeavesOnly D.moment D.left_since disk (disk_of store)
+            (IsOpening (D.may_leave disk) (first_state managed size) (D.seen disk)))
+            (λ refused. LeavesOnly D.moment D.left_since disk refused.0
+            (IsOpening (D.may_leave disk) (first_state managed size) (D.seen disk))) }
         ensures durable { D.Told → IfOk result (λ store. Only (D.seen (disk_of store)) (D.may_leave (disk_of store))) }
 
         // It is full exactly where the file would pass 2^30 bytes with the start.
-        ensures full { (bodies : List (List ℕ)) → D.Told → records_of (D.seen disk) ≡ Ok bodies → IfErr result (λ refused. refused.1 ≡ error.Full → FILE_LIMIT < 16 + sizes bodies) }
-        ensures bytes { (bodies : List (List ℕ)) → D.Told → records_of (D.seen disk) ≡ Ok bodies → IfOk result (λ store. (bytes_of store ≡ 16 + sizes bodies) × (bytes_of store ≤ FILE_LIMIT)) }
-        ensures cause { IfErr result (λ refused. OpenCause (D.faults disk) (D.faults refused.0) D.Told (file_state (first_state managed size) (D.seen disk)) refused.1) }
+        ensures full { (bodies : List (List ℕ)) → D.Told → records_of (D.seen disk) ≡ Ok bodies →
+            IfErr result (λ refused. refused.1 ≡ error.Full → FILE_LIMIT < 16 + sizes bodies) }
+        ensures bytes { (bodies : List (List ℕ)) → D.Told → records_of (D.seen disk) ≡ Ok bodies →
+            IfOk result (λ store. (bytes_of store ≡ 16 + sizes bodies) × (bytes_of store ≤ FILE_LIMIT)) }
+        ensures cause { IfErr result (λ refused. OpenCause (D.faults disk) (D.faults refused.0) D.Told
+            (file_state (first_state managed size) (D.seen disk)) refused.1) }
         ensures counts { MatchResult result
             (λ store. Tallies D.Disk disk (disk_of store))
             (λ refused. Tallies D.Disk disk refused.0) }
@@ -201,18 +213,24 @@ impl<D: Disk> Store<D> {
         ensures opened { IfOk result (λ store. (is_spent store ≡ false) × (first_of store ≡ first_state managed size)) }
 
         // The store stands for what the file stood for, with one start more.
-        ensures state { D.Told → IfOk result (λ store. IfOkState (file_state (first_state managed size) (D.seen disk)) (λ before. held_by store ≡ started before)) }
+        ensures state { D.Told → IfOk result (λ store. IfOkState (file_state (first_state managed size) (D.seen disk))
+            (λ before. held_by store ≡ started before)) }
 
         // A crash at any moment of the call leaves what it could leave before, or the same parts, or these with the start.
         ensures any_moment { D.Told → MatchResult result
-            (λ store. LeavesOnly D.moment D.left_since disk (disk_of store) (IsOpening (D.may_leave disk) (first_state managed size) (D.seen disk)))
-            (λ refused. LeavesOnly D.moment D.left_since disk refused.0 (IsOpening (D.may_leave disk) (first_state managed size) (D.seen disk))) }
+            (λ store. LeavesOnly D.moment D.left_since disk (disk_of store)
+            (IsOpening (D.may_leave disk) (first_state managed size) (D.seen disk)))
+            (λ refused. LeavesOnly D.moment D.left_since disk refused.0
+            (IsOpening (D.may_leave disk) (first_state managed size) (D.seen disk))) }
         ensures durable { D.Told → IfOk result (λ store. Only (D.seen (disk_of store)) (D.may_leave (disk_of store))) }
 
         // It is full exactly where the file would pass 2^30 bytes with the start.
-        ensures full { (bodies : List (List ℕ)) → D.Told → records_of (D.seen disk) ≡ Ok bodies → IfErr result (λ refused. refused.1 ≡ error.Full → FILE_LIMIT < 16 + sizes bodies) }
-        ensures bytes { (bodies : List (List ℕ)) → D.Told → records_of (D.seen disk) ≡ Ok bodies → IfOk result (λ store. (bytes_of store ≡ 16 + sizes bodies) × (bytes_of store ≤ FILE_LIMIT)) }
-        ensures cause { IfErr result (λ refused. OpenCause (D.faults disk) (D.faults refused.0) D.Told (file_state (first_state managed size) (D.seen disk)) refused.1) }
+        ensures full { (bodies : List (List ℕ)) → D.Told → records_of (D.seen disk) ≡ Ok bodies →
+            IfErr result (λ refused. refused.1 ≡ error.Full → FILE_LIMIT < 16 + sizes bodies) }
+        ensures bytes { (bodies : List (List ℕ)) → D.Told → records_of (D.seen disk) ≡ Ok bodies →
+            IfOk result (λ store. (bytes_of store ≡ 16 + sizes bodies) × (bytes_of store ≤ FILE_LIMIT)) }
+        ensures cause { IfErr result (λ refused. OpenCause (D.faults disk) (D.faults refused.0) D.Told
+            (file_state (first_state managed size) (D.seen disk)) refused.1) }
         ensures counts { MatchResult result
             (λ store. Tallies D.Disk disk (disk_of store))
             (λ refused. Tallies D.Disk disk refused.0) }
@@ -238,10 +256,13 @@ impl<D: Disk> Store<D> {
         requires whole { journals.is_spent journal ≡ false }
         requires fold { D.Told → file_state (first_state managed size) (D.seen (journals.disk_of journal)) ≡ Ok (durable_of state) }
         requires room { state.restart < LAST_NUMBER }
-        ensures opened { IfOk result (λ store. (is_spent store ≡ false) × ((first_of store ≡ first_state managed size) × (held_by store ≡ started (durable_of state)))) }
+        ensures opened { IfOk result (λ store. (is_spent store ≡ false) ×
+            ((first_of store ≡ first_state managed size) × (held_by store ≡ started (durable_of state)))) }
         ensures any_moment { D.Told → MatchResult result
-            (λ store. LeavesOnly D.moment D.left_since (journals.disk_of journal) (disk_of store) (StandsForEither (first_state managed size) (durable_of state) (started (durable_of state))))
-            (λ refused. LeavesOnly D.moment D.left_since (journals.disk_of journal) refused.0 (StandsForEither (first_state managed size) (durable_of state) (started (durable_of state)))) }
+            (λ store. LeavesOnly D.moment D.left_since (journals.disk_of journal) (disk_of store)
+            (StandsForEither (first_state managed size) (durable_of state) (started (durable_of state))))
+            (λ refused. LeavesOnly D.moment D.left_since (journals.disk_of journal) refused.0
+            (StandsForEither (first_state managed size) (durable_of state) (started (durable_of state)))) }
         ensures durable { D.Told → IfOk result (λ store. Only (D.seen (disk_of store)) (D.may_leave (disk_of store))) }
         ensures full { IfErr result (λ refused. refused.1 ≡ error.Full → FILE_LIMIT < journals.end_of journal + 15) }
         ensures bytes { IfOk result (λ store. (bytes_of store ≡ journals.end_of journal + 15) × (bytes_of store ≤ FILE_LIMIT)) }
@@ -295,12 +316,17 @@ impl<D: CrashDisk> Store<D> {
         ensures seen { D.Disk.Told → D.Disk.seen (disk_of self.new) ≡ D.Disk.seen (disk_of self.old) }
         ensures crash { D.Disk.Told → NoMore (D.Disk.may_leave (disk_of self.old)) (D.Disk.may_leave (disk_of self.new))
             × NoMore (D.Disk.may_leave (disk_of self.new)) (D.Disk.may_leave (disk_of self.old)) }
-        ensures time { D.Disk.Told → Elapses (D.Disk.moment (disk_of self.old)) (D.Disk.moment (disk_of self.new)) (D.Disk.left_since (disk_of self.old)) (D.Disk.left_since (disk_of self.new)) (D.Disk.may_leave (disk_of self.new)) }
+        ensures time { D.Disk.Told → Elapses (D.Disk.moment (disk_of self.old)) (D.Disk.moment (disk_of self.new))
+            (D.Disk.left_since (disk_of self.old)) (D.Disk.left_since (disk_of self.new))
+            (D.Disk.may_leave (disk_of self.new)) }
         ensures orders { D.Disk.orders (disk_of self.new) ≡ D.Disk.orders (disk_of self.old) + 1 }
-        ensures counts { (D.Disk.faults (disk_of self.new) ≡ D.Disk.faults (disk_of self.old)) × (D.Disk.starved (disk_of self.new) ≡ D.Disk.starved (disk_of self.old)) }
+        ensures counts { (D.Disk.faults (disk_of self.new) ≡ D.Disk.faults (disk_of self.old)) ×
+            (D.Disk.starved (disk_of self.new) ≡ D.Disk.starved (disk_of self.old)) }
         ensures armed { D.is_struck (disk_of self.new) ≡ false }
         ensures stop { D.stop (disk_of self.new) ≡ Some calls }
-        ensures others { (held_by self.new ≡ held_by self.old) × ((first_of self.new ≡ first_of self.old) × ((is_spent self.new ≡ is_spent self.old) × (bytes_of self.new ≡ bytes_of self.old))) }
+        ensures others { (held_by self.new ≡ held_by self.old) ×
+            ((first_of self.new ≡ first_of self.old) ×
+            ((is_spent self.new ≡ is_spent self.old) × (bytes_of self.new ≡ bytes_of self.old))) }
     {
         self.journal.stop_after(calls);
     }

@@ -64,15 +64,20 @@ pub(crate) fn append<D: Disk>(
 ) -> Result<(), StoreError>
     requires body { IsBody body.now }
     requires whole { is_spent journal.old ≡ false }
-    ensures appended { D.Told → OnOk result (records_of (D.seen (disk_of journal.new)) ≡ and_record (records_of (D.seen (disk_of journal.old))) body.now) }
+    ensures appended { D.Told → OnOk result (records_of (D.seen (disk_of journal.new)) ≡ and_record
+        (records_of (D.seen (disk_of journal.old))) body.now) }
     ensures durable { D.Told → is_spent journal.new ≡ false → Only (D.seen (disk_of journal.new)) (D.may_leave (disk_of journal.new)) }
-    ensures any_moment { D.Told → LeavesOnly D.moment D.left_since (disk_of journal.old) (disk_of journal.new) (IsBeforeOrAfter (records_of (D.seen (disk_of journal.old))) body.now) }
+    ensures any_moment { D.Told → LeavesOnly D.moment D.left_since (disk_of journal.old) (disk_of journal.new)
+        (IsBeforeOrAfter (records_of (D.seen (disk_of journal.old))) body.now) }
     ensures ok { OnOk result ((is_spent journal.new ≡ false) × (end_of journal.new ≡ end_of journal.old + (length body.now + 5))) }
     ensures starved { IsErrOf result error.NoMemory → (is_spent journal.new ≡ false) × (end_of journal.new ≡ end_of journal.old) }
-    ensures kept { D.Told → IsErrOf result error.NoMemory → records_of (D.seen (disk_of journal.new)) ≡ records_of (D.seen (disk_of journal.old)) }
-    ensures frugal { length body.now ≤ 64 → IsErrOf result error.NoMemory → Rose (D.starved (disk_of journal.old)) (D.starved (disk_of journal.new)) }
+    ensures kept { D.Told → IsErrOf result error.NoMemory →
+        records_of (D.seen (disk_of journal.new)) ≡ records_of (D.seen (disk_of journal.old)) }
+    ensures frugal { length body.now ≤ 64 → IsErrOf result error.NoMemory →
+        Rose (D.starved (disk_of journal.old)) (D.starved (disk_of journal.new)) }
     ensures full { IsErrOf result error.Full ↔ (FILE_LIMIT < end_of journal.old + (length body.now + 5)) }
-    ensures full_kept { IsErrOf result error.Full → (disk_of journal.new ≡ disk_of journal.old) × ((is_spent journal.new ≡ false) × (end_of journal.new ≡ end_of journal.old)) }
+    ensures full_kept { IsErrOf result error.Full → (disk_of journal.new ≡ disk_of journal.old) ×
+        ((is_spent journal.new ≡ false) × (end_of journal.new ≡ end_of journal.old)) }
     ensures cause { Counts D.Disk (disk_of journal.old) (disk_of journal.new) result }
     ensures orders { D.orders (disk_of journal.new) ≡ D.orders (disk_of journal.old) }
 {

@@ -82,5 +82,6 @@ pub trait Machine: Sized + Drop {
         ensures { IfOk result (λ answer. answer ≡ looked (view self.now) op.now) };
 
     /// Bytes that spell no entry change nothing and answer nothing.
-    ghost quiet: { (v : View) (index place : ℕ) (bytes : List ℕ) → whole entry_grammar bytes ≡ Err place → step v index bytes ≡ record { view = v; answers = [] } };
+    ghost quiet: { (v : View) (index place : ℕ) (bytes : List ℕ) → whole entry_grammar bytes ≡ Err place →
+        step v index bytes ≡ record { view = v; answers = [] } };
 }

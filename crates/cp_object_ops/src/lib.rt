@@ -1,4 +1,5 @@
-//! What may be done to each kind of object: types, bytes and texts.
+//! Apart from `cp_ops` for the time of its check alone: what may be done to each kind of object: types, bytes and
+//! texts.
 #![tactic(auto)]
 
 mod latch_op;

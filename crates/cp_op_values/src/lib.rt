@@ -1,4 +1,5 @@
-//! Values that operations and answers hold: references, keys and values of maps, kinds, wishes, lists of members.
+//! Apart from `cp_ops` for the time of its check alone: values that operations and answers hold: references, keys and
+//! values of maps, kinds, wishes, lists of members.
 #![tactic(auto)]
 
 mod kind;

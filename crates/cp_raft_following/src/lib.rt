@@ -1,5 +1,5 @@
-//! The rules on what others ask a member: pre-votes, votes, appends, chunks of snapshots and confirmations. Each does what
-//! its definition in `cp_rules` says.
+//! Apart from `cp_raft` for the time of its check alone: the rules on what others ask a member: pre-votes, votes,
+//! appends, chunks of snapshots and confirmations. Each does what its definition in `cp_rules` says.
 #![tactic(auto)]
 
 mod appending;

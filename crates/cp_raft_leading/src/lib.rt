@@ -1,5 +1,6 @@
-//! The rules of one that leads: it takes leadership, creates entries, commits, takes replies, requests, changes and reads.
-//! Each rule does what its definition in `cp_rules` says.
+//! Apart from `cp_raft` for the time of its check alone: the rules of one that leads: it takes leadership, creates
+//! entries, commits, takes replies, requests, changes and reads. Each rule does what its definition in `cp_rules`
+//! says.
 #![tactic(auto)]
 
 mod asking;

@@ -21,7 +21,10 @@ fn hold(
 ) -> Result<(), NoMemory>
     requires { IsNested holdings.old.entries }
     ensures nested { IsNested holdings.new.entries }
-    ensures held { OnOk result ((rest : List ((ℕ × List ℕ) × ℕ)) → IsRising holding_cmp (flat holdings.old.entries ++ ((session, name.now), permits) ∷ rest) → (permits == 0) ≡ false → flat holdings.new.entries ≡ flat holdings.old.entries ++ ((session, name.now), permits) ∷ []) }
+    ensures held { OnOk result ((rest : List ((ℕ × List ℕ) × ℕ)) →
+        IsRising holding_cmp (flat holdings.old.entries ++ ((session, name.now), permits) ∷ rest) →
+        (permits == 0) ≡ false → flat holdings.new.entries ≡ flat
+        holdings.old.entries ++ ((session, name.now), permits) ∷ []) }
 {
     set_holding(holdings, alloc, session, name, permits)?;
     Ok(())

@@ -68,7 +68,16 @@ pub(crate) fn objects_of(
     requires refs { IsRising name_cmp refs }
     requires maps { IsRising pair_cmp maps }
     requires gone { IsRising object_cmp gone }
-    ensures { IfOk result (λ objects. objects ≡ record { locks = locks; semaphores = record { rows = semaphores; holdings = holdings }; latches = latches; longs = longs; refs = refs; maps = maps; gone = gone }) }
+    ensures { IfOk result (λ objects. objects ≡ record {
+      locks = locks;
+      semaphores = record { rows = semaphores; holdings = holdings };
+      latches = latches;
+      longs
+          = longs;
+      refs = refs;
+      maps = maps;
+      gone = gone;
+    }) }
 {
     Ok(ObjectTables {
         locks: locks_of(alloc, locks)?,

@@ -12,7 +12,8 @@ pub const MOST: u32 = 10_000;
 /// Inserts a row whose key is above all that stand, in front of any rows that may come.
 #[tactic(auto, using(crate::proofs::Changes::put_last))]
 fn append<K: Ord + Drop, V: Drop>(map: &mut BTreeMap<K, V>, key: K, row: V) -> Result<(), NoMemory>
-    ensures { OnOk result ((rest : List (K × V)) → IsRising K.cmp (map.old.entries ++ (key, row) ∷ rest) → map.new.entries ≡ map.old.entries ++ (key, row) ∷ []) }
+    ensures { OnOk result ((rest : List (K × V)) → IsRising K.cmp (map.old.entries ++ (key, row) ∷ rest) →
+        map.new.entries ≡ map.old.entries ++ (key, row) ∷ []) }
 {
     map.insert(key, row)?;
     Ok(())

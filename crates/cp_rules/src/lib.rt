@@ -55,7 +55,8 @@ pub fn beats_with_what_is_lacking()
 
 /// An Append in which nothing is new writes no part; one that begins past the end of the log is refused with that end.
 pub fn follower_appends()
-    ensures known { step 2 second (started 0 0) (Got 1 (Append 1 0 0 1 (empty 1 ∷ []))) ≡ does None (record follows_one { commit = 1 }) (reply 1 (AppendReply 1 true 1)) }
+    ensures known { step 2 second (started 0 0) (Got 1 (Append 1 0 0 1 (empty 1 ∷ []))) ≡ does None
+        (record follows_one { commit = 1 }) (reply 1 (AppendReply 1 true 1)) }
     ensures past { step 2 second (started 0 0) (Got 1 (Append 1 3 1 1 [])) ≡ does None follows_one (reply 1 (AppendReply 1 false 1)) }
 {}
 

@@ -18,7 +18,8 @@ fn is_among(sessions: &[u64], own: u64) -> bool
 
 /// The names under which one session holds permits go into a set.
 fn add_each(names: &mut BTreeMap<Name, ()>, held: &BTreeMap<Name, u64>) -> Result<(), NoMemory>
-    ensures { OnOk result ((name : List ℕ) → has names.new.entries name ≡ (has names.old.entries name || list_any (λ e. bytes_eq name e.0) held.now.entries)) }
+    ensures { OnOk result ((name : List ℕ) → has names.new.entries
+        name ≡ (has names.old.entries name || list_any (λ e. bytes_eq name e.0) held.now.entries)) }
 {
     for (name, _permits) in held {
         add(names, name)?;

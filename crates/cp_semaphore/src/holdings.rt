@@ -122,7 +122,8 @@ fn sessions_of(
 
 /// The first of some sessions holds nothing of the semaphore of a name.
 fn remove_first(holdings: &mut BTreeMap<u64, BTreeMap<Name, u64>>, session: u64, name: &Name)
-    ensures gone { (sessions : List ℕ) (q : ℕ × List ℕ) → without_name name.now sessions holdings.new.entries q ≡ without_name name.now (session ∷ sessions) holdings.old.entries q }
+    ensures gone { (sessions : List ℕ) (q : ℕ × List ℕ) → without_name name.now sessions holdings.new.entries q ≡ without_name
+        name.now (session ∷ sessions) holdings.old.entries q }
     ensures nested { IsNested holdings.old.entries → IsNested holdings.new.entries }
 {
     remove(holdings, session, name);

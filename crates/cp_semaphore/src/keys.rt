@@ -87,7 +87,8 @@ pub fn concerned(
     sessions: &[u64],
     ended: &[Waiter],
 ) -> Result<Items<(Name, Kind)>, NoMemory>
-    ensures { IfOk result (λ keys. keys ≡ filter (is_concerned sessions.now ended.now semaphores.now.holdings) (keys_of semaphores.now.rows)) }
+    ensures { IfOk result (λ keys. keys ≡ filter (is_concerned sessions.now ended.now semaphores.now.holdings)
+        (keys_of semaphores.now.rows)) }
 {
     let sems = names_left(alloc, Kind::Sem, ended)?;
     let jsems = names_left(alloc, Kind::Jsem, ended)?;

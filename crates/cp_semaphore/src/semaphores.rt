@@ -132,7 +132,8 @@ impl Semaphores {
     /// Does an operation to a semaphore. Where memory runs out, the table stays.
     pub fn apply(&mut self, kind: Kind, name: &Name, op: &SemOp) -> Result<SemOutcome, NoMemory>
         ensures after { OnOk result (self.new ≡ (sem_step (name.now, kind) op.now self.old).after) }
-        ensures outcome { IfOk result (λ outcome. IsOutcome outcome (sem_step (name.now, kind) op.now self.old).outcome (name.now, kind) self.new) }
+        ensures outcome { IfOk result (λ outcome. IsOutcome outcome (sem_step (name.now, kind) op.now self.old).outcome
+            (name.now, kind) self.new) }
         ensures err { OnErr result (self.new ≡ self.old) }
     {
         let name = name.clone()?;

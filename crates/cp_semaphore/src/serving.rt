@@ -16,7 +16,8 @@ use cp_ops::Kind;
 /// A waiter takes its permits, where the semaphore is there. Where memory runs out, the tables stay.
 fn take_one(tables: &mut Tables, key: &(Name, Kind), waiter: &Waiter) -> Result<(), NoMemory>
     requires { IsTable tables.old }
-    ensures ok { OnOk result (seen tables.new ≡ take_on key.now (find object_cmp tables.old.rows.entries key.now) waiter.now (seen tables.old)) }
+    ensures ok { OnOk result (seen tables.new ≡ take_on key.now (find object_cmp tables.old.rows.entries key.now) waiter.now
+        (seen tables.old)) }
     ensures err { OnErr result (seen tables.new ≡ seen tables.old) }
     ensures nested { IsNested tables.new.holdings.entries }
 {
@@ -34,8 +35,10 @@ fn take_one(tables: &mut Tables, key: &(Name, Kind), waiter: &Waiter) -> Result<
 /// The first of some waiters takes its permits.
 fn take_first(tables: &mut Tables, key: &(Name, Kind), waiter: &Waiter) -> Result<(), NoMemory>
     requires { IsTable tables.old }
-    ensures same { OnOk result ((ws : List Waiter) → take_all key.now ws (seen tables.new) ≡ take_all key.now (waiter.now ∷ ws) (seen tables.old)) }
-    ensures can { OnOk result ((ws : List Waiter) → CanTake key.now (waiter.now ∷ ws) (seen tables.old) → CanTake key.now ws (seen tables.new)) }
+    ensures same { OnOk result ((ws : List Waiter) → take_all key.now ws (seen tables.new) ≡ take_all key.now (waiter.now ∷ ws)
+        (seen tables.old)) }
+    ensures can { OnOk result ((ws : List Waiter) → CanTake key.now (waiter.now ∷ ws) (seen tables.old) →
+        CanTake key.now ws (seen tables.new)) }
     ensures table { OnOk result ((ws : List Waiter) → CanTake key.now (waiter.now ∷ ws) (seen tables.old) → IsTable tables.new) }
     ensures err { OnErr result (IsTable tables.new) }
 {

@@ -44,7 +44,8 @@ fn release_held(
 ) -> Result<SemOutcome, NoMemory>
     requires { IsMet tables.old key.now row }
     ensures after { OnOk result (seen tables.new ≡ (release_held key.now row session permits (seen tables.old)).after) }
-    ensures outcome { IfOk result (λ o. IsOutcome o (release_held key.now row session permits (seen tables.old)).outcome key.now (seen tables.new)) }
+    ensures outcome { IfOk result (λ o. IsOutcome o (release_held key.now row session permits (seen tables.old)).outcome key.now
+        (seen tables.new)) }
     ensures err { OnErr result (seen tables.new ≡ seen tables.old) }
     ensures nested { IsNested tables.new.holdings.entries }
 {
@@ -68,7 +69,8 @@ fn release(
 ) -> Result<SemOutcome, NoMemory>
     requires { IsMet tables.old key.now row }
     ensures after { OnOk result (seen tables.new ≡ (sem_step_at key.now row (sem.Release session permits) (seen tables.old)).after) }
-    ensures outcome { IfOk result (λ o. IsOutcome o (sem_step_at key.now row (sem.Release session permits) (seen tables.old)).outcome key.now (seen tables.new)) }
+    ensures outcome { IfOk result (λ o. IsOutcome o (sem_step_at key.now row (sem.Release session permits) (seen tables.old)).outcome
+        key.now (seen tables.new)) }
     ensures err { OnErr result (seen tables.new ≡ seen tables.old) }
     ensures nested { IsNested tables.new.holdings.entries }
 {
@@ -90,8 +92,10 @@ fn acquire(
     permits: u32,
 ) -> Result<SemOutcome, NoMemory>
     requires { IsMet tables.old key.now row }
-    ensures after { OnOk result (seen tables.new ≡ (sem_step_at key.now row (sem.Acquire session permits wish.NoLimit) (seen tables.old)).after) }
-    ensures outcome { IfOk result (λ o. IsOutcome o (sem_step_at key.now row (sem.Acquire session permits wish.NoLimit) (seen tables.old)).outcome key.now (seen tables.new)) }
+    ensures after { OnOk result (seen tables.new ≡ (sem_step_at key.now row (sem.Acquire session permits wish.NoLimit)
+        (seen tables.old)).after) }
+    ensures outcome { IfOk result (λ o. IsOutcome o (sem_step_at key.now row (sem.Acquire session permits wish.NoLimit)
+        (seen tables.old)).outcome key.now (seen tables.new)) }
     ensures err { OnErr result (seen tables.new ≡ seen tables.old) }
     ensures nested { IsNested tables.new.holdings.entries }
 {
@@ -112,7 +116,8 @@ fn drain(
 ) -> Result<SemOutcome, NoMemory>
     requires { IsMet tables.old key.now row }
     ensures after { OnOk result (seen tables.new ≡ (sem_step_at key.now row (sem.Drain session) (seen tables.old)).after) }
-    ensures outcome { IfOk result (λ o. IsOutcome o (sem_step_at key.now row (sem.Drain session) (seen tables.old)).outcome key.now (seen tables.new)) }
+    ensures outcome { IfOk result (λ o. IsOutcome o (sem_step_at key.now row (sem.Drain session) (seen tables.old)).outcome key.now
+        (seen tables.new)) }
     ensures err { OnErr result (seen tables.new ≡ seen tables.old) }
     ensures nested { IsNested tables.new.holdings.entries }
 {
@@ -132,7 +137,8 @@ fn reduce(
 ) -> SemOutcome
     requires { IsMet tables.old key.now row }
     ensures after { seen tables.new ≡ (sem_step_at key.now row (sem.Reduce session permits) (seen tables.old)).after }
-    ensures outcome { IsOutcome result (sem_step_at key.now row (sem.Reduce session permits) (seen tables.old)).outcome key.now (seen tables.new) }
+    ensures outcome { IsOutcome result (sem_step_at key.now row (sem.Reduce session permits) (seen tables.old)).outcome key.now
+        (seen tables.new) }
     ensures nested { IsNested tables.new.holdings.entries }
 {
     if row.available - i64::from(permits) < LEAST {

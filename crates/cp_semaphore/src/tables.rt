@@ -149,7 +149,8 @@ fn forget_held(
     key: &(Name, Kind),
 ) -> Result<(), NoMemory>
     requires { IsNested holdings.old.entries }
-    ensures ok { OnOk result (flat holdings.new.entries ≡ filter (λ e. not (is_held key.now.1 && bytes_eq key.now.0 e.0.1)) (flat holdings.old.entries)) }
+    ensures ok { OnOk result (flat holdings.new.entries ≡ filter (λ e. not (is_held key.now.1 && bytes_eq key.now.0 e.0.1))
+        (flat holdings.old.entries)) }
     ensures err { OnErr result (flat holdings.new.entries ≡ flat holdings.old.entries) }
     ensures nested { IsNested holdings.new.entries }
 {

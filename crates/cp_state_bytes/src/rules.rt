@@ -162,7 +162,8 @@ fn is_semaphore(kind: Kind) -> bool
 
 /// Whether the semaphore that a call waits for is there.
 fn waiter_stands(semaphores: &Semaphores, waiter: &Waiter) -> Result<bool, NoMemory>
-    ensures { IfOk result (λ there. there ≡ (not (is_semaphore waiter.now.kind) || is_some (find object_cmp semaphores.now.entries (waiter.now.name, waiter.now.kind)))) }
+    ensures { IfOk result (λ there. there ≡ (not (is_semaphore waiter.now.kind) || is_some
+        (find object_cmp semaphores.now.entries (waiter.now.name, waiter.now.kind)))) }
 {
     if !is_semaphore(waiter.kind) {
         return Ok(true);
@@ -203,7 +204,8 @@ fn holdings_stand(
 
 /// Adds permits to what all sessions hold under a name, up to the most that a number can say.
 fn add(sums: &mut BTreeMap<Name, u64>, name: &Name, permits: u64) -> Result<(), NoMemory>
-    ensures { OnOk result (sums.new.entries ≡ put name_cmp sums.old.entries name.now (min (sum_under sums.old.entries name.now + permits) (2 ^ 64 - 1))) }
+    ensures { OnOk result (sums.new.entries ≡ put name_cmp sums.old.entries name.now
+        (min (sum_under sums.old.entries name.now + permits) (2 ^ 64 - 1))) }
 {
     let sum = match sums.get(name) {
         Some(sum) => sum.saturating_add(permits),
@@ -214,7 +216,8 @@ fn add(sums: &mut BTreeMap<Name, u64>, name: &Name, permits: u64) -> Result<(), 
 
 /// Adds what one row says.
 fn add_row(sums: &mut BTreeMap<Name, u64>, row: &((u64, Name), u64)) -> Result<(), NoMemory>
-    ensures { OnOk result (sums.new.entries ≡ put name_cmp sums.old.entries row.now.0.1 (min (sum_under sums.old.entries row.now.0.1 + row.now.1) (2 ^ 64 - 1))) }
+    ensures { OnOk result (sums.new.entries ≡ put name_cmp sums.old.entries row.now.0.1
+        (min (sum_under sums.old.entries row.now.0.1 + row.now.1) (2 ^ 64 - 1))) }
 {
     let ((_session, name), permits) = row;
     add(sums, name, *permits)

@@ -53,7 +53,13 @@ impl TranscriptWriter {
     ) -> Result<(), NoMemory>
         ensures rows { self.new.rows ≡ self.old.rows }
         ensures tells { OnOk result ((shown : List Effects) (history : List Committed) → Tells shown history self.old
-            → Tells (shown ++ record { number = number; event = event.now; ignored = ignored.now; opened = opened.now; returns = returns.now } ∷ []) history self.new) }
+            → Tells (shown ++ record {
+              number = number;
+              event = event.now;
+              ignored = ignored.now;
+              opened = opened.now;
+              returns = returns.now;
+            } ∷ []) history self.new) }
     {
         write_effects(
             number,

@@ -150,8 +150,10 @@ fn enter_each(indexes: &mut Indexes, alloc: Global, waiter: &Waiter) -> Result<(
 
 /// A waiter goes from all indexes.
 pub(crate) fn leave(indexes: &mut Indexes, waiter: &Waiter)
-    ensures gone { (ws : List Waiter) → CallsDiffer ws → IsOnly waiter.now ws → IsIndexed ws indexes.old → IsIndexed (without_waiter waiter.now.call ws) indexes.new }
-    ensures undone { (ws : List Waiter) → CallsDiffer ws → stands waiter.now.call ws ≡ false → IsPartlyIndexed ws waiter.now indexes.old → IsIndexed ws indexes.new }
+    ensures gone { (ws : List Waiter) → CallsDiffer ws → IsOnly waiter.now ws → IsIndexed ws indexes.old →
+        IsIndexed (without_waiter waiter.now.call ws) indexes.new }
+    ensures undone { (ws : List Waiter) → CallsDiffer ws → stands waiter.now.call ws ≡ false →
+        IsPartlyIndexed ws waiter.now indexes.old → IsIndexed ws indexes.new }
 {
     leave_object(&mut indexes.objects, waiter);
     leave_thread(&mut indexes.threads, waiter);
