@@ -7,14 +7,14 @@ use Rattle.std.proofs.lemmas.Option.{slice_get_within}
 use Rattle.cp_agreement_facts.specs.Configurations.{IsQuorum, AreAdjacent, HasQuorum, configuration_after}
 use Rattle.cp_agreement_facts.specs.Logs.{HasTerm, IsPrefixOf}
 use Rattle.cp_agreement_facts.specs.Clusters.{Append, Appended, Message, Vote, Voted}
-use Rattle.cp_agreement.specs.WholeLogs.{Cluster, Facts, IsMoment, MeetsFacts, Member, Step, after_step, cluster_after, committed, opening}
+use Rattle.cp_agreement.specs.WholeLogs.{Cluster, Facts, IsMoment, Led, MeetsFacts, Member, Step, after_step, cluster_after, committed, opening}
 use Rattle.cp_agreement.proofs.Logs.{share_at, Share, share_sym, share_trans, share_less, reach_at, share_length, share_take}
 use Rattle.cp_agreement.proofs.Configurations.{QuietFrom, no_change}
 use Rattle.cp_agreement.proofs.Ghost.{Ghost, Committed, Sound, Invariant, ghost_after, ghost_of, put_same, at_each}
 use Rattle.cp_agreement.proofs.Complete.{complete, complete_won, sound_matches}
 use Rattle.cp_agreement.proofs.Held.{held}
 use Rattle.cp_agreement.proofs.Grows.{next, sound_grows, committed_grows, leader_stays}
-use Rattle.cp_agreement.proofs.GhostSteps.{won_held}
+use Rattle.cp_agreement.proofs.GhostSteps.{leader_in, won_held}
 
 none_sent : (m : Message) → Contains {X = Message} [] m → ⊥
 none_sent m c = omega (arith, c.1)
@@ -88,6 +88,23 @@ share_prefix a b n both = (drop n b, ap (λ l. l ++ drop n b) (share_take a b n 
 front_of : (a b : List LogEntry) (n m : ℕ) → n ≤ m → Share n a b → IsPrefixOf (take n a) (take m b)
 front_of a b n m le both = (drop n (take m b), ap (λ l. l ++ drop n (take m b)) (share_take a b n both ∙ sym (take-take n m b le)) ∙ take-append-drop n (take m b))
 
+-- What a member has committed stands in each log that goes on from the one with which a later term was won.
+later : (first : List ℕ) (steps : List Step) → MeetsFacts first steps → (v : Cluster) → IsMoment steps v → (m : ℕ) (x : Member) → (ghost_of steps).leader x.term ≢ 0
+    → Share (length ((ghost_of steps).won x.term)) ((ghost_of steps).won x.term) x.log → (v.member m).term < x.term → IsPrefixOf (committed (v.member m)) x.log
+later first steps meets v at_v m x held won less =
+    let g = ghost_of steps in
+    let old = v.member m in
+    ⊎_elim
+    (λ e. (x.log, ap (λ k. take k old.log ++ x.log) e))
+    (λ c.
+    let there = complete_won first (cluster_after steps) g (invariant first steps meets) c.term c.place c.chosen x.term held (lt_of_le_of_lt c.upto less) in
+    let a = share_less (g.made c.term) (g.won x.term) old.commit (suc c.place) c.covers there in
+    share_prefix old.log x.log old.commit
+    (share_trans old.log (g.made c.term) x.log old.commit c.same
+    (share_trans (g.made c.term) (g.won x.term) x.log old.commit a
+    (share_less (g.won x.term) x.log old.commit (length (g.won x.term)) (share_length (g.made c.term) (g.won x.term) old.commit a) won))))
+    (moment first steps meets v at_v m).commit
+
 module _ (first : List ℕ) (steps : List Step) (meets : MeetsFacts first steps) (v w : Cluster) (at_v : IsMoment steps v) (at_w : IsMoment steps w) (m n : ℕ) where
   -- No two members lead in one term.
   pub one_leader : (v.member m).is_leader ≡ true → (w.member n).is_leader ≡ true → (v.member m).term ≡ (w.member n).term → m ≡ n
@@ -104,17 +121,8 @@ module _ (first : List ℕ) (steps : List Step) (meets : MeetsFacts first steps)
   -- What a member has committed stands in the log of each leader of a later term.
   pub later_leaders : (w.member n).is_leader ≡ true → (v.member m).term < (w.member n).term → IsPrefixOf (committed (v.member m)) (w.member n).log
   later_leaders leading less =
-      let hm = moment first steps meets v at_v m in let hn = moment first steps meets w at_w n in
-      ⊎_elim
-      (λ e. ((w.member n).log, ap (λ k. take k (v.member m).log ++ (w.member n).log) e))
-      (λ c.
-      let won = complete_won first (cluster_after steps) (ghost_of steps) (invariant first steps meets) c.term c.place c.chosen (w.member n).term (λ z. (hn.leading leading).0 (sym (hn.leading leading).1 ∙ z)) (lt_of_le_of_lt c.upto less) in
-      let a = share_less ((ghost_of steps).made c.term) ((ghost_of steps).won (w.member n).term) (v.member m).commit (suc c.place) c.covers won in
-      share_prefix (v.member m).log (w.member n).log (v.member m).commit
-      (share_trans (v.member m).log ((ghost_of steps).made c.term) (w.member n).log (v.member m).commit c.same
-      (share_trans ((ghost_of steps).made c.term) ((ghost_of steps).won (w.member n).term) (w.member n).log (v.member m).commit a
-      (share_less ((ghost_of steps).won (w.member n).term) (w.member n).log (v.member m).commit (length ((ghost_of steps).won (w.member n).term)) (share_length ((ghost_of steps).made c.term) ((ghost_of steps).won (w.member n).term) (v.member m).commit a) (hn.won leading)))))
-      hm.commit
+      let hn = moment first steps meets w at_w n in
+      later first steps meets v at_v m (w.member n) (λ z. (hn.leading leading).0 (sym (hn.leading leading).1 ∙ z)) (hn.won leading) less
 
 -- Of two committed lists, the one committed in the lower term is a front of the other or the other way round.
 ordered : (first : List ℕ) (w : Cluster) (g : Ghost) → Invariant first w g → (a b : List LogEntry) (n m u u' : ℕ) (x : Committed first w g a n u) (y : Committed first w g b m u') → x.term ≤ y.term → IsPrefixOf (take n a) (take m b) ⊎ IsPrefixOf (take m b) (take n a)
@@ -245,3 +253,45 @@ held_by_first first steps meets quiet v at m i less =
       λ n chosen. share_take ((cluster_after steps).member n).log (g.made c.term) (suc i) (h.by.2 n chosen) ∙ sym mine,
     ))
     (moment first steps meets v at m).commit
+
+-- ---- members that led in a step
+
+-- What the state in which a leader was left says of the execution as it is now.
+record WasLeft (g : Ghost) (m : ℕ) (x : Member) : Type 0 where
+  leading : (m ≢ 0) × (g.leader x.term ≡ m)
+  won : Share (length (g.won x.term)) (g.won x.term) x.log
+
+left_now : (first : List ℕ) (s : Step) (before : List Step) → MeetsFacts first (s ∷ before) → s.leads ≡ true → WasLeft (ghost_of (s ∷ before)) s.actor s.after
+left_now first s before meets leads =
+    let g = ghost_of (s ∷ before) in
+    let inv = invariant first (s ∷ before) meets in
+    let here = put_same (cluster_after before).member s.actor s.after s.actor refl in
+    let led : g.leader s.after.term ≡ s.actor = leader_in (cluster_after before) (ghost_of before) s s.after.term leads refl in
+    let own : s.after.log ≡ g.made s.after.term = subst (λ (x : Member). g.leader x.term ≡ s.actor → x.log ≡ g.made x.term) here (inv.own s.actor meets.0.named) led in
+    record { leading = (meets.0.named, led); won = subst (Share (length (g.won s.after.term)) (g.won s.after.term)) (sym own) (inv.won s.after.term) }
+
+left_once : (first : List ℕ) (steps : List Step) → MeetsFacts first steps → (m : ℕ) (x : Member) → Led steps m x → WasLeft (ghost_of steps) m x
+left_once first [] meets m x led = absurd led
+left_once first (s ∷ before) meets m x (inl (actor, leads, after)) =
+    subst (λ k. WasLeft (ghost_of (s ∷ before)) k x) actor (subst (λ (y : Member). WasLeft (ghost_of (s ∷ before)) s.actor y) after (left_now first s before meets leads))
+left_once first (s ∷ before) meets m x (inr led) =
+    let w = cluster_after before in
+    let g = ghost_of before in
+    let h = left_once first before meets.1 m x led in
+    let held : g.leader x.term ≢ 0 = λ z. h.leading.0 (sym h.leading.1 ∙ z) in
+    record {
+      leading = (h.leading.0, leader_stays first w g s (invariant first before meets.1) meets.0 x.term held ∙ h.leading.1);
+      won = subst (λ l. Share (length l) l x.log) (sym (won_held w g s x.term held)) h.won;
+    }
+
+-- No two members lead in one term, also where a step is cut off or the leader steps down in it.
+pub one_led : (first : List ℕ) (steps : List Step) → MeetsFacts first steps → (m n : ℕ) (x y : Member) → Led steps m x → Led steps n y → x.term ≡ y.term → m ≡ n
+one_led first steps meets m n x y led_m led_n same =
+    sym (left_once first steps meets m x led_m).leading.1 ∙ ap (ghost_of steps).leader same ∙ (left_once first steps meets n y led_n).leading.1
+
+-- And what a member has committed each of a later term has.
+pub later_led : (first : List ℕ) (steps : List Step) → MeetsFacts first steps → (v : Cluster) → IsMoment steps v → (m n : ℕ) (x : Member) → Led steps n x
+    → (v.member m).term < x.term → IsPrefixOf (committed (v.member m)) x.log
+later_led first steps meets v at_v m n x led less =
+    let h = left_once first steps meets n x led in
+    later first steps meets v at_v m x (λ z. h.leading.0 (sym h.leading.1 ∙ z)) h.won less

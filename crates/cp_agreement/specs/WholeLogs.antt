@@ -44,6 +44,11 @@ abbrev pub IsMoment : List Step → Cluster → Type 0
 IsMoment [] w = w ≡ opening
 IsMoment (s ∷ before) w = (w ≡ cluster_after (s ∷ before)) ⊎ IsMoment before w
 
+-- In some step the member led, and was left as this: as one that leads no more, where it stepped down or a crash cut the step off.
+abbrev pub Led : List Step → ℕ → Member → Type 0
+Led [] m x = ⊥
+Led (s ∷ before) m x = ((s.actor ≡ m) × (s.leads ≡ true) × (s.after ≡ x)) ⊎ Led before m x
+
 -- the acting member before the step
 abbrev pub before : Cluster → Step → Member
 before w s = w.member s.actor

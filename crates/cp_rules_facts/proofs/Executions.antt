@@ -23,7 +23,7 @@ use Rattle.cp_rules_facts.proofs.Basics.{same_everywhere}
 use Rattle.cp_rules_facts.proofs.Laws.{stays_sound, steps_meet_facts}
 
 -- a start finds what a crash leaves
-start_is : (p : PersistentState) (v : VolatileState) (clock : ℕ) → chunked_member p (started p.base clock) ≡ chunked_restart (chunked_member p v)
+pub start_is : (p : PersistentState) (v : VolatileState) (clock : ℕ) → chunked_member p (started p.base clock) ≡ chunked_restart (chunked_member p v)
 start_is p v clock = λ i. record {
   tracked = record {
     term = p.term;

@@ -29,13 +29,13 @@ any_good t (Some e) is fair = step_good t e is (fair e refl)
 -- ---- chunks as they are joined
 
 -- what is joined begins with what was received, or anew
-record Front (v : VolatileState) (term index offset : ℕ) (bytes all : List ℕ) : Type 0 where
-  front : List ℕ
-  offset_is : length front ≡ offset
-  was : (front ≡ []) ⊎ (v.received ≡ Some (record { term = term; index = index; bytes = front }))
-  all_is : all ≡ front ++ bytes
+pub record Front (v : VolatileState) (term index offset : ℕ) (bytes all : List ℕ) : Type 0 where
+  pub front : List ℕ
+  pub offset_is : length front ≡ offset
+  pub was : (front ≡ []) ⊎ (v.received ≡ Some (record { term = term; index = index; bytes = front }))
+  pub all_is : all ≡ front ++ bytes
 
-front_of : (v : VolatileState) (term index offset : ℕ) (bytes all : List ℕ) → joined (received_of term index v.received) offset bytes ≡ Some all → Front v term index offset bytes all
+pub front_of : (v : VolatileState) (term index offset : ℕ) (bytes all : List ℕ) → joined (received_of term index v.received) offset bytes ≡ Some all → Front v term index offset bytes all
 front_of v term index zero bytes all h = record { front = []; offset_is = refl; was = inl refl; all_is = sym (same_Some bytes all h) }
 front_of v term index (suc offset) bytes all h = of_received v.received refl h
   where
@@ -61,20 +61,20 @@ front_of v term index (suc offset) bytes all h = of_received v.received refl h
 
 -- ---- a turn that is there for each step
 
-abbrev all_with : VolatileState → Option Wire → Option (List ℕ)
+abbrev pub all_with : VolatileState → Option Wire → Option (List ℕ)
 all_with v None = None
 all_with v (Some (AsItIs m)) = None
 all_with v (Some (Chunk f t i offset last bytes)) = joined (received_of t i v.received) offset bytes
 
-abbrev alone_sent : Option Message → List Message
+abbrev pub alone_sent : Option Message → List Message
 alone_sent None = []
 alone_sent (Some m) = m ∷ []
 
-alone_delivered : (o : Option Message) (m : Message) → o ≡ Some m → Contains (alone_sent o) m
+pub alone_delivered : (o : Option Message) (m : Message) → o ≡ Some m → Contains (alone_sent o) m
 alone_delivered None m h = absurd (cc)
 alone_delivered (Some x) m h = (0, omega arith, same_Some x m h)
 
-abbrev own_turn : (me : ℕ) (p : PersistentState) (v : VolatileState) (came : Option Wire) → IsSound me p v → Turn
+abbrev pub own_turn : (me : ℕ) (p : PersistentState) (v : VolatileState) (came : Option Wire) → IsSound me p v → Turn
 own_turn me p v came sound =
     let all = unwrap_or (all_with v came) [] in
     record {

@@ -5,6 +5,8 @@ pub mod Leaders
 pub mod Followers
 pub mod Ticks
 pub mod Steps
+pub mod Records
+pub mod Opened
 pub mod Bodies
 pub mod Parts
 pub mod Laws

@@ -1,3 +1,4 @@
 pub mod Messages
 pub mod Ranges
 pub mod Laws
+pub mod Opened

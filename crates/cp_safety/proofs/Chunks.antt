@@ -7,7 +7,7 @@ use Rattle.std.proofs.lemmas.Option.{same_Some}
 use Rattle.cp_agreement_facts.specs.Clusters.{Step, Message, Snapshot, Cluster, cluster_after, put}
 use Rattle.cp_agreement_facts.specs.Facts.{MeetsFacts}
 use Rattle.cp_safety.specs.Tracking.{untracked, untracked_step, TrackedStep, TrackedFacts, MeetsTrackedFacts, restarted, tracked_after, untracked_steps}
-use Rattle.cp_safety.specs.Chunks.{SnapshotReader, Received, ChunkedMember, Wire, AsItIs, Chunk, ChunkedStep, chunked_restart, chunked_after, seen_got, seen_sent, seen_step, Joins, IsPiece, SameSnapshot, NewSnapshot, ChunkedFacts, MeetsChunkedFacts, HadSnapshot, MembersThrough}
+use Rattle.cp_safety.specs.Chunks.{SnapshotReader, Received, ChunkedMember, Wire, AsItIs, Chunk, ChunkedStep, chunked_restart, chunked_after, seen_got, seen_sent, seen_step, Joins, IsPiece, SameSnapshot, NewSnapshot, ChunkedFacts, MeetsChunkedFacts, HadSnapshot, MembersThrough, chunked_left, LedThrough}
 use Rattle.cp_agreement.proofs.Ghost.{put_same, put_other}
 use Rattle.cp_safety.proofs.Lists.{contains_map}
 use Rattle.cp_safety.proofs.Executions.{senders}
@@ -59,10 +59,16 @@ record Shown (reader : SnapshotReader) (first : List ℕ) (steps : List ChunkedS
   received : (m : ℕ) (r : Received) → ((chunked_after first steps).member m).received ≡ Some r
       → (f : ℕ) × (i : ℕ) × (offset : ℕ) × (last : Bool) × (bytes : List ℕ) × Contains (chunked_after first steps).sent (Chunk f r.term i offset last bytes) × (i ≡ r.index) × IsFront (text f i) r.bytes
 
--- At each moment of the execution each member is the one of an execution of tracked members.
+record SameStep (p : TrackedStep) (s : ChunkedStep) : Type 0 where
+  actor : p.actor ≡ s.actor
+  leads : p.leads ≡ s.leads
+  after : p.after ≡ s.after.tracked
+  cut : p.cut ≡ s.cut
+
+-- At each moment of the execution each member is the one of an execution of tracked members, whose steps are the same.
 abbrev SeenThrough : List ℕ → List ChunkedStep → List TrackedStep → Type 0
 SeenThrough first [] tracked = tracked ≡ []
-SeenThrough first (s ∷ steps) tracked = (p : TrackedStep) × (ps : List TrackedStep) × (tracked ≡ p ∷ ps)
+SeenThrough first (s ∷ steps) tracked = (p : TrackedStep) × (ps : List TrackedStep) × (tracked ≡ p ∷ ps) × SameStep p s
     × ((m : ℕ) → (tracked_after first tracked).member m ≡ ((chunked_after first (s ∷ steps)).member m).tracked) × SeenThrough first steps ps
 
 -- The execution with whole snapshots, beside the one with chunks.
@@ -297,7 +303,7 @@ module _ (reader : SnapshotReader) (first : List ℕ) (before : List ChunkedStep
     same = next_same;
     text = next_text;
     shown = next_shown;
-    through = (seen, b.tracked, refl, next_same, b.through);
+    through = (seen, b.tracked, refl, record { actor = refl; leads = refl; after = refl; cut = refl }, next_same, b.through);
   }
 
 -- By induction on the steps.
@@ -321,7 +327,7 @@ beside reader first (s ∷ before) meets = next reader first before (beside read
 -- Without what they count, tracked members are the members of an execution that meets the facts.
 without_counts : (first : List ℕ) (steps : List ChunkedStep) (tracked : List TrackedStep) → SeenThrough first steps tracked → MembersThrough first steps (untracked_steps tracked)
 without_counts first [] tracked through = ap untracked_steps through
-without_counts first (s ∷ steps) tracked (p, ps, is, same, rest) = (
+without_counts first (s ∷ steps) tracked (p, ps, is, step, same, rest) = (
   untracked_step p,
   untracked_steps ps,
   ap untracked_steps is,
@@ -334,6 +340,35 @@ pub chunked_executions : (reader : SnapshotReader) (first : List ℕ) (steps : L
 chunked_executions reader first steps meets =
     let b = beside reader first steps meets in
     (untracked_steps b.tracked, tracked_meets first b.tracked b.meets, without_counts first steps b.tracked b.through)
+
+-- a step without what is counted
+untracked_same : (p : TrackedStep) → ((untracked_step p).actor ≡ p.actor) × ((untracked_step p).leads ≡ p.leads)
+untracked_same p = ⊎_elim (λ (e : p.cut ≡ true). (rw e refl, rw e refl)) (λ (e : p.cut ≡ false). (rw e refl, rw e refl)) (cases_Bool p.cut)
+
+left_alike : (p : TrackedStep) (s : ChunkedStep) → SameStep p s → (untracked_step p).after ≡ untracked (chunked_left s).tracked
+left_alike p s same = ⊎_elim
+    (λ (e : s.cut ≡ true). rw (same.cut ∙ e, e) (ap (λ m. untracked (restarted m)) same.after))
+    (λ (e : s.cut ≡ false). rw (same.cut ∙ e, e) (ap untracked same.after))
+    (cases_Bool s.cut)
+
+led_through : (first : List ℕ) (steps : List ChunkedStep) (tracked : List TrackedStep) → SeenThrough first steps tracked → LedThrough steps (untracked_steps tracked)
+led_through first [] tracked through = ap untracked_steps through
+led_through first (s ∷ steps) tracked (p, ps, is, step, same, rest) = (
+  untracked_step p,
+  untracked_steps ps,
+  ap untracked_steps is,
+  (untracked_same p).0 ∙ step.actor,
+  (untracked_same p).1 ∙ step.leads,
+  left_alike p s step,
+  led_through first steps ps rest,
+)
+
+-- The same execution, with who leads in its steps.
+pub led_executions : (reader : SnapshotReader) (first : List ℕ) (steps : List ChunkedStep) → MeetsChunkedFacts reader first steps
+    → (whole_snapshots : List Step) × MeetsFacts first whole_snapshots × MembersThrough first steps whole_snapshots × LedThrough steps whole_snapshots
+led_executions reader first steps meets =
+    let b = beside reader first steps meets in
+    (untracked_steps b.tracked, tracked_meets first b.tracked b.meets, without_counts first steps b.tracked b.through, led_through first steps b.tracked b.through)
 
 -- What is joined is a snapshot that the sender had.
 pub chunks_join : (reader : SnapshotReader) (first : List ℕ) (s : ChunkedStep) (steps : List ChunkedStep) → MeetsChunkedFacts reader first (s ∷ steps)

@@ -5,7 +5,7 @@ use Rattle.cp_parts.specs.declared.log_entry.LogEntry.{LogEntry}
 use Rattle.cp_agreement_facts.specs.Logs.{HasTerm}
 use Rattle.cp_agreement_facts.specs.Clusters.{Append, Cluster, Member, Message, Snapshot, Step, Vote, after_step, cluster_after, put}
 use Rattle.cp_agreement_facts.specs.Facts.{KnowsTerm, MeetsFacts, before}
-use Rattle.cp_safety.specs.Standing.{StandsFor, StandsForLog, StandsThrough}
+use Rattle.cp_safety.specs.Standing.{StandsFor, StandsForLog, StandsThrough, LedThrough}
 use Rattle.cp_agreement.specs.WholeLogs as whole
 use Rattle.cp_agreement.proofs.Ghost.{Ghost, Invariant, Sound, ghost_of, put_other, put_same}
 use Rattle.cp_agreement.proofs.Moments.{invariant}
@@ -28,6 +28,7 @@ record Beside (first : List ℕ) (steps : List Step) : Type 0 where
   fit : (m : ℕ) → StandsForLog first ((cluster_after first steps).member m) (logs m)
   heard : Heard first (cluster_after first steps) sent
   through : StandsThrough first steps plain
+  led : LedThrough first steps plain
   quiet : KeepsMembers first steps → ((m : ℕ) → QuietFrom (logs m) 0) × ((t : ℕ) → QuietFrom ((ghost_of plain).made t) 0)
 
 stands_for : (first : List ℕ) (b : Member) (l : List LogEntry) → StandsForLog first b l → StandsFor first b (standing b l)
@@ -49,6 +50,7 @@ beside first [] meets = record {
     snapshot = λ f t i it ms has. absurd (omega (arith, has.1));
   };
   through = refl;
+  led = refl;
   quiet = λ keeps. (λ m k e le is. absurd (cc), λ t k e le is. absurd (cc));
 }
 beside first (s ∷ before) meets = next (beside first before meets.1)
@@ -72,6 +74,7 @@ beside first (s ∷ before) meets = next (beside first before meets.1)
           fit = fits;
           heard = next_heard first w b.logs b.sent (ghost_of b.plain) s inv b.heard b.fit r meets.0 o;
           through = (p, b.plain, refl, λ m. subst (λ x. StandsFor first ((after_step w s).member m) (x.member m)) (sym same) (stands_for first ((after_step w s).member m) (put b.logs s.actor o.log m) (fits m)), b.through);
+          led = (p, b.plain, refl, refl, refl, stands_for first s.after o.log o.fits, b.led);
           quiet = λ keeps.
               let old = b.quiet (λ v at. keeps v (inr at)) in
               let own : QuietFrom s.after.log 0 = λ k e le is. keeps (cluster_after first (s ∷ before)) (inl refl) s.actor k e (ap (λ (x : Member). slice_get x.log k) (put_same w.member s.actor s.after s.actor refl) ∙ is) in
@@ -89,6 +92,10 @@ beside first (s ∷ before) meets = next (beside first before meets.1)
 
 pub whole_logs : (first : List ℕ) (steps : List Step) → MeetsFacts first steps → (plain : List whole.Step) × whole.MeetsFacts first plain × StandsThrough first steps plain
 whole_logs first steps meets = let b = beside first steps meets in (b.plain, b.meets, b.through)
+
+-- The same execution, with who leads in its steps.
+pub led_whole_logs : (first : List ℕ) (steps : List Step) → MeetsFacts first steps → (plain : List whole.Step) × whole.MeetsFacts first plain × StandsThrough first steps plain × LedThrough first steps plain
+led_whole_logs first steps meets = let b = beside first steps meets in (b.plain, b.meets, b.through, b.led)
 
 -- Where no members entry stands in any log, none stands in a leader's whole log.
 pub quiet_whole_logs : (first : List ℕ) (steps : List Step) → MeetsFacts first steps → KeepsMembers first steps

@@ -10,14 +10,14 @@ use Rattle.cp_agreement_facts.specs.Clusters.{Member, Cluster, Step, IsMoment, c
 use Rattle.cp_agreement_facts.specs.Facts.{KnowsTerm, MeetsFacts}
 use Rattle.cp_agreement.specs.WholeLogs as whole
 use Rattle.cp_agreement.proofs.Logs.{get-take, has_place}
-use Rattle.cp_agreement.proofs.Moments.{one_leader as whole_one_leader, equal_prefixes as whole_equal_prefixes, later_leaders as whole_later_leaders, one_history as whole_one_history, held_at_end as whole_held_at_end, held_by_first as whole_held_by_first}
+use Rattle.cp_agreement.proofs.Moments.{one_leader as whole_one_leader, equal_prefixes as whole_equal_prefixes, later_leaders as whole_later_leaders, one_history as whole_one_history, held_at_end as whole_held_at_end, held_by_first as whole_held_by_first, one_led as whole_one_led, later_led as whole_later_led}
 use Rattle.cp_agreement.proofs.Configurations.{QuietFrom}
 use Rattle.cp_agreement.proofs.Ghost.{ghost_of}
-use Rattle.cp_safety.specs.Standing.{StandsForLog, StandsFor, StandsThrough}
-use Rattle.cp_safety.specs.Laws.{HasEntry, AgreeUpTo, CommitsFrontOf, IsHistory, IsHeldBy, KeepsMembers}
+use Rattle.cp_safety.specs.Standing.{StandsForLog, StandsFor, StandsThrough, LedThrough}
+use Rattle.cp_safety.specs.Laws.{Led, HasEntry, AgreeUpTo, CommitsFrontOf, IsHistory, IsHeldBy, KeepsMembers}
 use Rattle.cp_safety.proofs.Lists.{drop-take_add, has_term_same}
 use Rattle.cp_safety.proofs.Fits.{at_log, knows_has, whole_length}
-use Rattle.cp_safety.proofs.Executions.{whole_logs, quiet_whole_logs}
+use Rattle.cp_safety.proofs.Executions.{whole_logs, led_whole_logs, quiet_whole_logs}
 
 opening_stands : (first : List ℕ) (m : ℕ) → StandsFor first ((opening first).member m) (whole.opening.member m)
 opening_stands first m = record { term = refl; commit = refl; leader = refl; log = record { fits = omega arith; log = refl; base_term = refl; members = refl; above = omega arith } }
@@ -74,6 +74,15 @@ agree first a b la lb fa fb n same i le = (entries, terms)
     terms : (t u : ℕ) → KnowsTerm a i t → KnowsTerm b i u → t ≡ u
     terms t u ka kb = has_term_same lb i t u (same_term la lb n i t same le (knows_has first a la fa i t ka)) (knows_has first b lb fb i u kb)
 
+-- Where the one's committed list is a prefix of the other's log, the other has it.
+leads_on : (first : List ℕ) (a b : Member) (x y : whole.Member) → StandsFor first a x → StandsFor first b y → x.commit ≤ length x.log → IsPrefixOf (take x.commit x.log) y.log
+    → AgreeUpTo a.commit a b × (a.commit ≤ b.base + length b.log)
+leads_on first a b x y fa fb within later =
+    let front = prefix_front x.log y.log x.commit within later in (
+      agree first a b x.log y.log fa.log fb.log a.commit (subst (λ c. take c x.log ≡ take c y.log) fa.commit front.0),
+      omega (arith, front.1, fa.commit, whole_length first b y.log fb.log),
+    )
+
 module _ (first : List ℕ) (steps : List Step) (meets : MeetsFacts first steps) (v w : Cluster) (at_v : IsMoment first steps v) (at_w : IsMoment first steps w) (m n : ℕ) where
   -- The laws, each by the law of that name on whole logs.
   pub one_office : (v.member m).is_leader ≡ true → (w.member n).is_leader ≡ true → (v.member m).term ≡ (w.member n).term → m ≡ n
@@ -98,13 +107,36 @@ module _ (first : List ℕ) (steps : List Step) (meets : MeetsFacts first steps)
       let (plain, facts, through) = whole_logs first steps meets in
       let x = at_once first steps plain through v at_v in
       let y = at_once first steps plain through w at_w in
-      let lm = (x.0.member m).log in let ln = (y.0.member n).log in
       let within = ((whole_one_history first plain facts).1 x.0 x.1 m).1 in
-      let later = whole_later_leaders first plain facts x.0 y.0 x.1 y.1 m n ((y.2 n).leader ∙ leads) (omega (arith, less, (x.2 m).term, (y.2 n).term)) in
-      let front = prefix_front lm ln (x.0.member m).commit within later in (
-        agree first (v.member m) (w.member n) lm ln (x.2 m).log (y.2 n).log (v.member m).commit (subst (λ c. take c lm ≡ take c ln) (x.2 m).commit front.0),
-        omega (arith, front.1, (x.2 m).commit, whole_length first (w.member n) ln (y.2 n).log),
-      )
+      leads_on first (v.member m) (w.member n) (x.0.member m) (y.0.member n) (x.2 m) (y.2 n) within
+      (whole_later_leaders first plain facts x.0 y.0 x.1 y.1 m n ((y.2 n).leader ∙ leads) (omega (arith, less, (x.2 m).term, (y.2 n).term)))
+
+-- ---- members that led in a step
+
+-- the step on whole logs that a step stands for
+led_at : (first : List ℕ) (steps : List Step) (plain : List whole.Step) → LedThrough first steps plain → (m : ℕ) (x : Member) → Led steps m x → (y : whole.Member) × whole.Led plain m y × StandsFor first x y
+led_at first [] plain through m x led = absurd led
+led_at first (s ∷ steps) plain (p, ps, is, actor, leads, stands, rest) m x (inl (a, b, c)) =
+    (p.after, subst (λ l. whole.Led l m p.after) (sym is) (inl (actor ∙ a, leads ∙ b, refl)), subst (λ z. StandsFor first z p.after) c stands)
+led_at first (s ∷ steps) plain (p, ps, is, actor, leads, stands, rest) m x (inr led) = let r = led_at first steps ps rest m x led in (r.0, subst (λ l. whole.Led l m r.0) (sym is) (inr r.1), r.2)
+
+-- No two members lead in one term, also where a step is cut off or the leader steps down in it.
+pub one_led : (first : List ℕ) (steps : List Step) → MeetsFacts first steps → (m n : ℕ) (x y : Member) → Led steps m x → Led steps n y → x.term ≡ y.term → m ≡ n
+one_led first steps meets m n x y led_m led_n same =
+    let (plain, facts, through, led) = led_whole_logs first steps meets in
+    let a = led_at first steps plain led m x led_m in
+    let b = led_at first steps plain led n y led_n in
+    whole_one_led first plain facts m n a.0 b.0 a.1 b.1 (a.2.term ∙ same ∙ sym b.2.term)
+
+-- What a member has committed each that leads a later term has.
+pub later_led : (first : List ℕ) (steps : List Step) → MeetsFacts first steps → (v : Cluster) → IsMoment first steps v → (m n : ℕ) (x : Member) → Led steps n x
+    → (v.member m).term < x.term → AgreeUpTo (v.member m).commit (v.member m) x × ((v.member m).commit ≤ x.base + length x.log)
+later_led first steps meets v at_v m n x led_n less =
+    let (plain, facts, through, led) = led_whole_logs first steps meets in
+    let a = at_once first steps plain through v at_v in
+    let b = led_at first steps plain led n x led_n in
+    let within = ((whole_one_history first plain facts).1 a.0 a.1 m).1 in
+    leads_on first (v.member m) x (a.0.member m) b.0 (a.2 m) b.2 within (whole_later_led first plain facts a.0 a.1 m n b.0 b.1 (omega (arith, less, (a.2 m).term, b.2.term)))
 
 -- A member that stands for a log has committed a front of each list of which this log's committed front is one.
 commits_front : (first : List ℕ) (history : List LogEntry) (a : Member) (log : List LogEntry) → StandsForLog first a log → take a.commit log ≡ take a.commit history → a.commit ≤ length history → CommitsFrontOf first history a

@@ -38,7 +38,7 @@ module _ (first : List ℕ) (w : Cluster) (logs : ℕ → List LogEntry) (sent :
   -- The whole log that the step leaves, how it came about, and what is known of it up to the base.
   pub record Outcome : Type 0 where
     pub log : List LogEntry
-    fits : StandsForLog first s.after log
+    pub fits : StandsForLog first s.after log
     pub change : (log ≡ whole_log) ⊎ (whole.EntriesCreated first now (whole_step log) ⊎ whole.FollowsLeader now (whole_step log))
     pub below : ((s.after.base ≤ me.commit) × Share s.after.base log whole_log × ((f t i it : ℕ) (ms : List ℕ) → s.got ≡ Some (Snapshot f t i it ms) → Share me.commit log whole_log))
         ⊎ (InstallsSnapshot w s × Share s.after.base log (g.made s.after.term))

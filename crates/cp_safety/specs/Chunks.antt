@@ -141,3 +141,14 @@ abbrev pub MembersThrough : List ℕ → List ChunkedStep → List Step → Type
 MembersThrough first [] others = others ≡ []
 MembersThrough first (s ∷ steps) others = (p : Step) × (ps : List Step) × (others ≡ p ∷ ps)
     × ((m : ℕ) → (cluster_after first others).member m ≡ untracked ((chunked_after first (s ∷ steps)).member m).tracked) × MembersThrough first steps ps
+
+-- what a step leaves, cut off or not
+abbrev pub chunked_left : ChunkedStep → ChunkedMember
+chunked_left s = if s.cut then chunked_restart s.after else s.after
+
+-- Each step of the execution is of the same member as the other's, which leads in both or in neither and is left as the same, without
+-- what it counts and receives.
+abbrev pub LedThrough : List ChunkedStep → List Step → Type 0
+LedThrough [] others = others ≡ []
+LedThrough (s ∷ steps) others = (p : Step) × (ps : List Step) × (others ≡ p ∷ ps)
+    × (p.actor ≡ s.actor) × (p.leads ≡ s.leads) × (p.after ≡ untracked (chunked_left s).tracked) × LedThrough steps ps

@@ -1,5 +1,5 @@
 -- The laws of agreement. They speak of any two states v and w that an execution had, in either order, and of any two members in them.
-use Rattle.std.specs.Prelude.{◌≡◌, ◌∷◌, ◌+◌, ◌-◌, ◌<◌, ◌≤◌, ◌⊎◌, true, ℕ, suc, Bool, List, length, take, drop, Some, None, slice_get}
+use Rattle.std.specs.Prelude.{◌≡◌, [], ◌∷◌, ◌+◌, ◌-◌, ◌<◌, ◌≤◌, ◌⊎◌, true, ℕ, suc, Bool, List, length, take, drop, Some, None, slice_get}
 use Rattle.cp_parts.specs.declared.log_entry.LogEntry.{LogEntry}
 use Rattle.cp_agreement_facts.specs.Entries.{members_in}
 use Rattle.cp_agreement_facts.specs.Configurations.{configuration_at, HasQuorum, IsQuorum, AreAdjacent}
@@ -19,6 +19,11 @@ AtAnyTwoMoments P = (first : List ℕ) (steps : List Step) → MeetsFacts first 
 -- No two members lead in one term.
 abbrev pub OneOffice : Type 0
 OneOffice = AtAnyTwoMoments (λ a m b n. a.is_leader ≡ true → b.is_leader ≡ true → a.term ≡ b.term → m ≡ n)
+
+-- In some step the member led, and was left as this: as one that leads no more, where it stepped down or a crash cut the step off.
+abbrev pub Led : List Step → ℕ → Member → Type 0
+Led [] m x = ⊥
+Led (s ∷ before) m x = ((s.actor ≡ m) × (s.leads ≡ true) × (s.after ≡ x)) ⊎ Led before m x
 
 -- the member has this entry at an index above its base
 abbrev pub HasEntry : Member → ℕ → LogEntry → Type 0

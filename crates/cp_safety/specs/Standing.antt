@@ -26,3 +26,10 @@ abbrev pub StandsThrough : List ℕ → List Step → List whole.Step → Type 0
 StandsThrough first [] plain = plain ≡ []
 StandsThrough first (s ∷ steps) plain = (p : whole.Step) × (ps : List whole.Step) × (plain ≡ p ∷ ps)
     × ((m : ℕ) → StandsFor first ((cluster_after first (s ∷ steps)).member m) ((whole.cluster_after plain).member m)) × StandsThrough first steps ps
+
+-- Each step of the execution is of the same member as the other's, which leads in both or in neither, and what it leaves stands for what
+-- the other leaves.
+abbrev pub LedThrough : List ℕ → List Step → List whole.Step → Type 0
+LedThrough first [] plain = plain ≡ []
+LedThrough first (s ∷ steps) plain = (p : whole.Step) × (ps : List whole.Step) × (plain ≡ p ∷ ps)
+    × (p.actor ≡ s.actor) × (p.leads ≡ s.leads) × StandsFor first s.after p.after × LedThrough first steps ps

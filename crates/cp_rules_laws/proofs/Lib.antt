@@ -1,0 +1,9 @@
+pub mod Quiet
+pub mod Following
+pub mod Steps
+pub mod Moves
+pub mod Origins
+pub mod Moments
+pub mod Histories
+pub mod Snapshots
+pub mod Ended
