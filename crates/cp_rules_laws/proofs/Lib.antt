@@ -7,3 +7,4 @@ pub mod Moments
 pub mod Histories
 pub mod Snapshots
 pub mod Ended
+pub mod Worked

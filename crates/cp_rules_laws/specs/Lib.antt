@@ -5,3 +5,4 @@ pub mod Moments
 pub mod Histories
 pub mod Snapshots
 pub mod Ended
+pub mod Worked

@@ -3,13 +3,18 @@
 //! member has of a group that has ended. No code: the functions below state laws.
 #![tactic(auto)]
 
+ghost use Rattle.std.specs.Prelude.{◌≡◌, [], ◌∷◌};
+ghost use Rattle.cp_rules.specs.declared.role.Role.TheVariants.{Follower};
+ghost use Rattle.cp_rules.specs.Worked.{empty};
+ghost use Rattle.cp_rules_facts.specs.Executions.{IsExecution};
 ghost use Rattle.cp_rules_laws.specs.Writes.{StepsWrite};
 ghost use Rattle.cp_rules_laws.specs.Moves.{CommitsRise};
-ghost use Rattle.cp_rules_laws.specs.Origins.{EntriesComeFrom, EntriesWereMade};
-ghost use Rattle.cp_rules_laws.specs.Moments.{MembersAgree};
+ghost use Rattle.cp_rules_laws.specs.Origins.{EntriesComeFrom, EntriesWereMade, WasMade};
+ghost use Rattle.cp_rules_laws.specs.Moments.{Led, MembersAgree};
 ghost use Rattle.cp_rules_laws.specs.Histories.{ThereIsOneHistory};
 ghost use Rattle.cp_rules_laws.specs.Snapshots.{SnapshotsWereTaken};
 ghost use Rattle.cp_rules_laws.specs.Ended.{EndedGroupsStay};
+ghost use Rattle.cp_rules_laws.specs.Worked.{IsNoStep, alone, cut_off, crashed, forgets, falls, makes_as_follower, answers_nothing};
 
 /// A step keeps the log, or follows an Append that came, or makes one entry as leader, or takes a snapshot of its own, or
 /// installs another's.
@@ -53,4 +58,23 @@ pub fn snapshots_were_taken()
 /// A group that has ended never stands again, and over the whole journal its last state is the one right before its end.
 pub fn ended_groups_stay()
     ensures { EndedGroupsStay }
+{}
+
+/// One that is alone takes leadership, and a crash cuts the step off: the entry stands, and it led, though it is no Leader at any
+/// moment.
+pub fn leads_and_crashes()
+    ensures happens { IsExecution alone cut_off }
+    ensures role { crashed.state.role ≡ Follower }
+    ensures log { crashed.stored.log ≡ empty 1 ∷ [] }
+    ensures led { Led alone cut_off 1 crashed }
+    ensures made { WasMade alone cut_off 1 (empty 1) }
+{}
+
+/// No step lets go what is committed, takes a commit back, makes an entry for one that doesn't lead, or makes one that is asked
+/// and answers no index.
+pub fn no_step_leaves()
+    ensures forgets { IsNoStep forgets }
+    ensures falls { IsNoStep falls }
+    ensures follower { IsNoStep makes_as_follower }
+    ensures silent { IsNoStep answers_nothing }
 {}

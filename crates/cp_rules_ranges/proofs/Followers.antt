@@ -144,17 +144,7 @@ snapped p b index bytes head r given is above most short =
     let s = suffix_range p index head.term (omega (arith, above)) in
     let a = s.short in
     let c = r.last_index in
-    let ranged : StoredIsInRange q = record {
-      term = given.term;
-      vote = given.vote;
-      last_index = omega (arith, a, c, most);
-      base_term = x.term;
-      index = x.config.index;
-      plan = x.config.plan;
-      members = x.config.members;
-      snapshot = omega (arith, short);
-      entries = s.range r.entries;
-    } in
+    let ranged : StoredIsInRange q = record { term = given.term; vote = given.vote; last_index = omega (arith, a, c, most); base_term = x.term; members = x.members; snapshot = short; entries = s.range r.entries } in
     record {
       written = (given, record { above = above; most = most; head = ap (λ (o : Option SnapshotHead). is_some o) is; short = short });
       stored = subst StoredIsInRange same ranged;

@@ -5,8 +5,6 @@ pub mod Leaders
 pub mod Followers
 pub mod Ticks
 pub mod Steps
-pub mod Records
-pub mod Opened
 pub mod Bodies
 pub mod Parts
 pub mod Laws

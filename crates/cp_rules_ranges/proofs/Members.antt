@@ -1,13 +1,13 @@
--- The configurations that bytes spell: their numbers are in range, and their members rise from 1 to 9.
+-- The members of configurations that bytes spell: they rise from 1 to 9.
 use Rattle.std.proofs.Common.{◌≡◌, ◌≤◌, ◌<◌, ◌+◌, ◌-◌, ◌^◌, ℕ, zero, suc, ltb, leb, Bool, true, cond, List, [], ◌∷◌, ◌++◌, length, refl, ap, sym, subst, ◌∙◌, arith, Ok, Err, ltb-true, ltb-false}
-use Rattle.std.specs.Prelude.{Option, Some, None, Result, slice_get, nat_lt, ◌==◌}
+use Rattle.std.specs.Prelude.{Option, Some, None, slice_get, nat_lt, ◌==◌}
 use Rattle.std.specs.Option.{option_map}
 use Rattle.std.specs.Int.{Width, w32, w64, byte_len, from_be_bytes}
 use Rattle.std.specs.List.{AllByRecursion}
 use Rattle.std.proofs.Common.{take, drop}
-use Rattle.std.proofs.lemmas.List.{length-append, length-take}
+use Rattle.std.proofs.lemmas.List.{length-append}
 use Rattle.std.proofs.lemmas.Option.{same_Some}
-use Rattle.cp_grammar.specs.Grammar.{Read, ◌>>=◌, Grammar, ◌then◌, whole}
+use Rattle.cp_grammar.specs.Grammar.{Read, ◌>>=◌, Grammar, ◌then◌}
 use Rattle.cp_grammar.specs.Fields.{byte, mark_reading, number, number_reading, optional, at_least}
 use Rattle.cp_grammar.specs.Lists.{items_reading, ItemsFit}
 use Rattle.cp_grammar.specs.Laws.{bind_ok, ok_is, guard_ok, guard_rest, test_ok}
@@ -16,16 +16,15 @@ use Rattle.cp_parts.specs.declared.config.Config.{Config}
 use Rattle.cp_parts.specs.declared.log_entry.LogEntry.{LogEntry}
 use Rattle.cp_parts.specs.declared.snapshot_head.SnapshotHead.{SnapshotHead}
 use Rattle.cp_parts.specs.Configs as configs
-use Rattle.cp_parts.specs.Configs.{plan_number, config_grammar, brought, brought_at, config_in}
+use Rattle.cp_parts.specs.Configs.{plan_number, config_grammar, config_in}
 use Rattle.cp_parts.specs.Heads.{head_grammar, head_of, front_of}
 use Rattle.cp_agreement_facts.specs.Entries.{members_in}
-use Rattle.cp_log_rules.specs.Persistent.{PersistentState, last}
-use Rattle.cp_log_rules.specs.Configurations.{config_or, config_after, config_at}
+use Rattle.cp_log_rules.specs.Configurations.{config_or, config_after}
 use Rattle.cp_rules.specs.Limits.{most_index}
 use Rattle.cp_rules.specs.Changes.{with_member, without_member}
 use Rattle.cp_rules.proofs.SpellingLaws.{Entry, entry_read, whole_read, config_members}
 use Rattle.cp_rules_facts.proofs.Basics.{either}
-use Rattle.cp_rules_ranges.specs.Ranges.{IsMember, StoredIsInRange}
+use Rattle.cp_rules_ranges.specs.Ranges.{IsMember}
 
 -- ---- what is read fits
 
@@ -84,47 +83,6 @@ second_read {A} {B} g h ts y left e =
       b.1 ∙ ap (λ (p : (A × B) × List ℕ). Ok (p.0.1, p.1)) same,
     )
 
--- ---- a configuration
-
-pub record ConfigIsInRange (c : Config) : Type 0 where
-  pub index : c.index ≤ most_index
-  pub plan : c.plan ≤ 2 ^ 64 - 1
-  pub members : members.Fits c.members
-
--- that of a members entry, wherever it stands
-entry_config : (at : ℕ) (bytes : List ℕ) (e : Entry) → at ≤ most_index → whole configs.members_entry bytes ≡ Ok e → ConfigIsInRange (brought at e)
-unfolding configs.members_entry
-entry_config at bytes e most is =
-    let r = whole_read bytes e is in
-    let m = bind_ok {B = Entry × List ℕ} (mark_reading 4 bytes) (λ (rest : List ℕ). (optional invocation then plan_number then members).reading rest) (e, []) r in
-    let a = second_read (optional invocation) (plan_number then members) m.0 e [] m.2 in
-    let b = second_read plan_number members a.0 e.1 [] a.2 in
-    record { index = most; plan = number_fits w64 (2 ^ 64 - 1) a.0 e.1.0 b.0 b.1; members = members_fit b.0 e.1.1 [] b.2 }
-
-config_in_range : (at : ℕ) (bytes : List ℕ) (c : Config) → at ≤ most_index → config_in at bytes ≡ Some c → ConfigIsInRange c
-unfolding config_in
-config_in_range at bytes c most is = look (whole configs.members_entry bytes) refl is
-  where
-    look : (r : Result Entry ℕ) → whole configs.members_entry bytes ≡ r → brought_at at r ≡ Some c → ConfigIsInRange c
-    look (Ok e) was is = subst ConfigIsInRange (same_Some (brought at e) c is) (entry_config at bytes e most was)
-    look (Err place) was is = absurd cc
-
--- the configuration after entries
-after_in_range : (before : Config) (at : ℕ) (log : List LogEntry) → ConfigIsInRange before → at + length log ≤ most_index → ConfigIsInRange (config_after before at log)
-unfolding config_after
-after_in_range before at [] r most = r
-after_in_range before at (e ∷ log) r most = after_in_range (config_or (config_in (at + 1) e.bytes) before) (at + 1) log (look (config_in (at + 1) e.bytes) refl) (omega (arith, most))
-  where
-    look : (o : Option Config) → config_in (at + 1) e.bytes ≡ o → ConfigIsInRange (config_or o before)
-    look None is = r
-    look (Some c) is = config_in_range (at + 1) e.bytes c (omega (arith, most)) is
-
--- the configuration in force at an index
-pub at_in_range : (p : PersistentState) (i : ℕ) → StoredIsInRange p → p.base ≤ i → i ≤ last p → ConfigIsInRange (config_at p i)
-at_in_range p i r low high =
-    let most = r.last_index in
-    after_in_range p.base_config p.base (take (i - p.base) p.log) (record { index = r.index; plan = r.plan; members = r.members }) (omega (arith, most, length-take (i - p.base) p.log, low, high))
-
 -- ---- the members that an entry sets
 
 pub entry_fits : (bytes ms : List ℕ) → members_in bytes ≡ Some ms → members.Fits ms
@@ -153,21 +111,17 @@ after_fits before at (e ∷ log) fits = after_fits (config_or (config_in (at + 1
 
 pub record HeadIsInRange (head : SnapshotHead) : Type 0 where
   pub term : head.term ≤ most_index
-  pub config : ConfigIsInRange head.config
+  pub members : members.Fits head.config.members
 
-config_read : (ts : List ℕ) (c : Config) (left : List ℕ) → config_grammar.reading ts ≡ Ok (c, left) → ConfigIsInRange c
-unfolding config_grammar index
-config_read ts c left e =
+config_fits : (ts : List ℕ) (c : Config) (left : List ℕ) → config_grammar.reading ts ≡ Ok (c, left) → members.Fits c.members
+unfolding config_grammar
+config_fits ts c left e =
     let made : ℕ × (ℕ × List ℕ) → Config = (λ p. record { index = p.0; plan = p.1.0; members = p.1.1 }) in
     let a = bind_ok ((index then plan_number then members).reading ts) (λ (p : (ℕ × (ℕ × List ℕ)) × List ℕ). Ok (made p.0, p.1)) (c, left) e in
     let b = second_read index (plan_number then members) ts a.0.0 a.0.1 a.1 in
     let d = second_read plan_number members b.0 a.0.0.1 a.0.1 b.2 in
     let same : made a.0.0 ≡ c = ap (λ (p : Config × List ℕ). p.0) (ok_is {A = Config × List ℕ} (made a.0.0, a.0.1) (c, left) a.2) in
-    subst ConfigIsInRange same (record {
-      index = number_fits w64 (2 ^ 62) ts a.0.0.0 b.0 b.1;
-      plan = number_fits w64 (2 ^ 64 - 1) b.0 a.0.0.1.0 d.0 d.1;
-      members = members_fit d.0 a.0.0.1.1 a.0.1 d.2;
-    })
+    subst (λ (z : Config). members.Fits z.members) same (members_fit d.0 a.0.0.1.1 a.0.1 d.2)
 
 head_read : (ts : List ℕ) (head : SnapshotHead) (left : List ℕ) → head_grammar.reading ts ≡ Ok (head, left) → HeadIsInRange head
 unfolding head_grammar index
@@ -176,7 +130,7 @@ head_read ts head left e =
     let a = bind_ok ((index then config_grammar).reading ts) (λ (p : (ℕ × Config) × List ℕ). Ok (made p.0, p.1)) (head, left) e in
     let b = second_read index config_grammar ts a.0.0 a.0.1 a.1 in
     let same : made a.0.0 ≡ head = ap (λ (p : SnapshotHead × List ℕ). p.0) (ok_is {A = SnapshotHead × List ℕ} (made a.0.0, a.0.1) (head, left) a.2) in
-    subst HeadIsInRange same (record { term = number_fits w64 (2 ^ 62) ts a.0.0.0 b.0 b.1; config = config_read b.0 a.0.0.1 a.0.1 b.2 })
+    subst HeadIsInRange same (record { term = number_fits w64 (2 ^ 62) ts a.0.0.0 b.0 b.1; members = config_fits b.0 a.0.0.1 a.0.1 b.2 })
 
 pub head_in_range : (bytes : List ℕ) (head : SnapshotHead) → head_of bytes ≡ Some head → HeadIsInRange head
 unfolding head_of
@@ -185,11 +139,6 @@ head_in_range bytes head is = look (head_grammar.reading bytes) refl is
     look : (r : Read ℕ SnapshotHead) → head_grammar.reading bytes ≡ r → front_of r ≡ Some head → HeadIsInRange head
     look (Err left) was is = absurd cc
     look (Ok x) was is = subst HeadIsInRange (same_Some x.0 head is) (head_read bytes x.0 x.1 was)
-
--- and what is in range has a spelling
-pub head_fits : (head : SnapshotHead) → head.term ≤ most_index → ConfigIsInRange head.config → head_grammar.Fits head
-unfolding head_grammar config_grammar index
-head_fits head most r = ((most, ((r.index, (r.plan, r.members)), refl)), refl)
 
 -- ---- each is a member, and there are at most nine
 

@@ -58,17 +58,7 @@ plain h to body m b = quiet h h.v (reply to body) h.range (one_sent to body m b)
 -- ---- a ballot is written
 
 pub with_ballot_range : (p : PersistentState) (b : Ballot) → StoredIsInRange p → BallotIsInRange p b → StoredIsInRange (with_ballot b.term b.vote p)
-with_ballot_range p b r given = record {
-  term = given.term;
-  vote = given.vote;
-  last_index = r.last_index;
-  base_term = r.base_term;
-  index = r.index;
-  plan = r.plan;
-  members = r.members;
-  snapshot = r.snapshot;
-  entries = r.entries;
-}
+with_ballot_range p b r given = record { term = given.term; vote = given.vote; last_index = r.last_index; base_term = r.base_term; members = r.members; snapshot = r.snapshot; entries = r.entries }
 
 written_ballot : (p : PersistentState) (b : Ballot) → BallotIsInRange p b → WrittenIsInRange p (ballot_part p b)
 written_ballot p b given = either (WrittenIsInRange p) ((p.term == b.term) && (p.vote == b.vote)) None (Some (StatePart b)) (λ h. tt) (λ h. given)

@@ -1,19 +1,15 @@
 -- Each step is in range.
-use Rattle.std.proofs.Common.{◌≡◌, ℕ, ◌<◌, ◌≤◌, List, refl, le_refl, arith}
+use Rattle.std.proofs.Common.{ℕ, ◌≤◌, List, refl, le_refl, arith}
 use Rattle.cp_grammar.specs.Common as common
 use Rattle.cp_log_rules.specs.Persistent.{PersistentState, new_group}
 use Rattle.cp_rules.specs.Limits.{most_index}
 use Rattle.cp_rules.specs.Volatile.{VolatileState, started}
 use Rattle.cp_rules.specs.Local.{Body, PreVote, PreVoteReply, Vote, VoteReply, Append, AppendReply, Snapshot, SnapshotReply, Confirm, Confirmed, Event, Tick, Got, Propose, ChangeMembers, Read}
 use Rattle.cp_rules.specs.Steps.{on_message, rule, step}
-use Rattle.cp_rules.specs.Snapshots.{own_head}
-use Rattle.cp_rules.proofs.SpellingLaws.{snapshots_read_back}
-use Rattle.cp_rules_facts.specs.Soundness.{IsSound, IsFair, IsSnapshotDue}
+use Rattle.cp_rules_facts.specs.Soundness.{IsSound, IsFair}
 use Rattle.cp_rules_facts.proofs.Laws.{stays_sound}
-use Rattle.cp_rules_ranges.specs.Ranges.{IsMember, StoredIsInRange, IsInRange, BodyIsInRange, EventIsInRange}
-use Rattle.cp_rules_ranges.specs.Laws.{MayStep, MayGoOn, StaysInRange, StepsGoOn}
-use Rattle.cp_rules_ranges.proofs.Members.{at_in_range, head_fits}
-use Rattle.cp_rules_ranges.proofs.Basics.{known_in_range}
+use Rattle.cp_rules_ranges.specs.Ranges.{IsMember, IsInRange, BodyIsInRange, EventIsInRange}
+use Rattle.cp_rules_ranges.specs.Laws.{MayStep, StaysInRange, StepsGoOn}
 use Rattle.cp_rules_ranges.proofs.Rules.{Here, Ranged, Goes, follows_in_range, prevote_range, prevote_reply_range, vote_range, confirm_range, confirmed_range, read_range}
 use Rattle.cp_rules_ranges.proofs.Leaders.{vote_reply_range, propose_range, change_range, append_reply_range, snapshot_reply_range}
 use Rattle.cp_rules_ranges.proofs.Followers.{append_range, snapshot_range}
@@ -43,29 +39,13 @@ step_range me p v event may =
     let h : Here = record { me = me; p = p; v = v; member = may.member; sound = may.sound; range = may.range } in
     settles_range h (rule me p v event) (rule_range h event may.fair may.comes) (stays_sound.step me p v event may.sound may.fair)
 
--- with what is stored, and this clock
-started_range : (p : PersistentState) (clock : ℕ) → StoredIsInRange p → clock ≤ most_index → IsInRange p (started p.base clock)
-started_range p clock r late = follows_in_range p (started p.base clock) refl r (record { clock = late; heard = late; beat = omega arith; round = omega arith; received = λ x e. absurd (cc) })
-
 start_range : (p : PersistentState) (v : VolatileState) (clock : ℕ) → IsInRange p v → clock ≤ most_index → IsInRange p (started p.base clock)
-start_range p v clock r late = started_range p clock r.stored late
-
--- a group that has just begun
-pub new_in_range : (ms : List ℕ) → common.members.Fits ms → StoredIsInRange (new_group ms)
-new_in_range ms fits = record {
-  term = omega arith;
-  vote = omega arith;
-  last_index = omega arith;
-  base_term = omega arith;
-  index = omega arith;
-  plan = omega arith;
-  members = fits;
-  snapshot = omega arith;
-  entries = tt;
-}
+start_range p v clock r late = follows_in_range p (started p.base clock) refl r.stored (record { clock = late; heard = late; beat = omega arith; round = omega arith; received = λ x e. absurd (cc) })
 
 begin_range : (ms : List ℕ) (clock : ℕ) → common.members.Fits ms → clock ≤ most_index → IsInRange (new_group ms) (started 0 clock)
-begin_range ms clock fits late = started_range (new_group ms) clock (new_in_range ms fits) late
+begin_range ms clock fits late = follows_in_range (new_group ms) (started 0 clock) refl
+    (record { term = omega arith; vote = omega arith; last_index = omega arith; base_term = omega arith; members = fits; snapshot = omega arith; entries = tt })
+    (record { clock = late; heard = late; beat = omega arith; round = omega arith; received = λ x e. absurd (cc) })
 
 pub stays_in_range : StaysInRange
 stays_in_range = record {
@@ -76,36 +56,21 @@ stays_in_range = record {
 
 -- ---- one step after another
 
--- a member that starts with what is stored
-start_sound : (me clock : ℕ) (p : PersistentState) → IsMember me → (p.base ≡ 0 → p.base_term ≡ 0) → IsSound me p (started p.base clock)
-start_sound me clock p is no_base = record {
+begin_sound : (me clock : ℕ) (ms : List ℕ) → IsMember me → IsSound me (new_group ms) (started 0 clock)
+begin_sound me clock ms is = record {
   named = λ e. let low = is.first in omega (arith, low, e);
-  above_base = le_refl p.base;
+  above_base = le_refl 0;
   within = omega arith;
-  no_base = no_base;
+  no_base = λ h. refl;
   voted = λ h. absurd (cc);
   campaigns = λ h. absurd (cc);
   leads = λ h. absurd (cc);
   peers = λ h. absurd (cc);
 }
 
-pub starts : (me clock : ℕ) (p : PersistentState) → IsMember me → StoredIsInRange p → (p.base ≡ 0 → p.base_term ≡ 0) → clock ≤ most_index → MayGoOn me p (started p.base clock)
-starts me clock p is r no_base late = record { member = is; sound = start_sound me clock p is no_base; range = started_range p clock r late }
-
--- a snapshot that is due can be taken
-due : (me : ℕ) (p : PersistentState) (v : VolatileState) (machine : List ℕ) → MayGoOn me p v → p.base < v.commit → IsSnapshotDue p v machine
-due me p v machine is above =
-    let r = is.range.stored in
-    record {
-      above = above;
-      reads_back = snapshots_read_back (own_head p v.commit) machine
-          (head_fits (own_head p v.commit) (known_in_range p v.commit r) (at_in_range p v.commit r is.sound.above_base is.sound.within));
-    }
-
 pub steps_go_on : StepsGoOn
 steps_go_on = record {
   step = λ me p v event may. record { member = may.member; sound = stays_sound.step me p v event may.sound may.fair; range = (step_range me p v event may).after };
   start = λ me clock p v is late. record { member = is.member; sound = stays_sound.start me clock p v is.sound; range = start_range p v clock is.range late };
-  begin = λ me clock ms is fits late. starts me clock (new_group ms) is (new_in_range ms fits) (λ h. refl) late;
-  due = due;
+  begin = λ me clock ms is fits late. record { member = is; sound = begin_sound me clock ms is; range = begin_range ms clock fits late };
 }

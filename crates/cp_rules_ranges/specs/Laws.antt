@@ -1,5 +1,5 @@
 -- What a step writes is what a store takes, and what it sends has a spelling.
-use Rattle.std.specs.Prelude.{◌≡◌, ℕ, ◌<◌, ◌≤◌, length, List, Some, Contains, IsTrue}
+use Rattle.std.specs.Prelude.{◌≡◌, ℕ, ◌≤◌, length, List, Some, Contains, IsTrue}
 use Rattle.cp_base.specs.declared.identifier.GroupId.{GroupId}
 use Rattle.cp_base.specs.declared.limits.TheConstants.{BODY_LIMIT}
 use Rattle.cp_parts.specs.Parts.{part_grammar}
@@ -14,7 +14,7 @@ use Rattle.cp_rules.specs.Parts.{part_of}
 use Rattle.cp_rules.specs.Volatile.{VolatileState, started}
 use Rattle.cp_rules.specs.Local.{Body, Sent, Event}
 use Rattle.cp_rules.specs.Steps.{step}
-use Rattle.cp_rules_facts.specs.Soundness.{IsSound, IsFair, IsSnapshotDue}
+use Rattle.cp_rules_facts.specs.Soundness.{IsSound, IsFair}
 use Rattle.cp_rules_ranges.specs.Messages.{message_of}
 use Rattle.cp_rules_ranges.specs.Ranges.{IsInRange, IsMember, BodyIsInRange, EventIsInRange}
 
@@ -43,14 +43,12 @@ pub record MayGoOn (me : ℕ) (p : PersistentState) (v : VolatileState) : Type 0
   pub sound : IsSound me p v
   pub range : IsInRange p v
 
--- What each step requires of the member, the step before it leaves, and so does a crash; a group begins with it. And where the member has
--- committed something above the base, it may be handed the machine's bytes, whatever they are: a snapshot of them can be read again.
+-- What each step requires of the member, the step before it leaves, and so does a crash; a group begins with it.
 pub record StepsGoOn : Type 0 where
   pub step : (me : ℕ) (p : PersistentState) (v : VolatileState) (event : Event) → MayStep me p v event
       → MayGoOn me (after_part (step me p v event).part p) (step me p v event).state
   pub start : (me clock : ℕ) (p : PersistentState) (v : VolatileState) → MayGoOn me p v → clock ≤ most_index → MayGoOn me p (started p.base clock)
   pub begin : (me clock : ℕ) (members : List ℕ) → IsMember me → common.members.Fits members → clock ≤ most_index → MayGoOn me (new_group members) (started 0 clock)
-  pub due : (me : ℕ) (p : PersistentState) (v : VolatileState) (machine : List ℕ) → MayGoOn me p v → p.base < v.commit → IsSnapshotDue p v machine
 
 -- ---- what is written
 

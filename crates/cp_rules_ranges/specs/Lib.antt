@@ -1,4 +1,3 @@
 pub mod Messages
 pub mod Ranges
 pub mod Laws
-pub mod Opened

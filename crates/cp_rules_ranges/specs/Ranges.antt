@@ -1,7 +1,7 @@
 -- The numbers that have spellings: of what a member stores and keeps, of what comes to it, and of what it writes and sends.
 use Rattle.std.specs.Prelude.{◌≡◌, ℕ, ◌+◌, ◌^◌, ◌-◌, ◌<◌, ◌≤◌, true, List, length, Option, Some, None, is_some}
 use Rattle.std.specs.List.{AllByRecursion}
-use Rattle.cp_base.specs.declared.limits.TheConstants.{BODY_LIMIT, MOST_ENTRY}
+use Rattle.cp_base.specs.declared.limits.TheConstants.{MOST_ENTRY}
 use Rattle.cp_grammar.specs.Common as common
 use Rattle.cp_parts.specs.declared.log_entry.LogEntry.{LogEntry}
 use Rattle.cp_parts.specs.Heads.{head_of}
@@ -17,11 +17,6 @@ use Rattle.cp_rules.specs.Local.{Body, PreVote, PreVoteReply, Vote, VoteReply, A
 -- the most bytes of an entry
 abbrev pub most_entry : ℕ
 most_entry = MOST_ENTRY
-
--- The most bytes of a snapshot that a store may have: a record has room for them behind the kind, the group, the term, the vote, the index
--- and the length of the bytes. What a member makes or receives is shorter still.
-abbrev pub most_stored : ℕ
-most_stored = BODY_LIMIT - 30
 
 -- members have the numbers 1 to 9
 pub record IsMember (m : ℕ) : Type 0 where
@@ -42,10 +37,8 @@ pub record StoredIsInRange (p : PersistentState) : Type 0 where
   pub vote : p.vote ≤ 9
   pub last_index : last p ≤ most_index
   pub base_term : p.base_term ≤ most_index
-  pub index : p.base_config.index ≤ most_index
-  pub plan : p.base_config.plan ≤ 2 ^ 64 - 1
   pub members : common.members.Fits p.base_config.members
-  pub snapshot : length p.snapshot ≤ most_stored
+  pub snapshot : length p.snapshot ≤ most_snapshot
   pub entries : AreInRange p.log
 
 pub record KeptIsInRange (v : VolatileState) : Type 0 where

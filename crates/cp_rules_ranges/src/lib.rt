@@ -2,7 +2,6 @@
 //! functions below state laws.
 #![tactic(auto)]
 
-ghost use Rattle.cp_rules_ranges.specs.Opened.{OpensInRange, OpensReady};
 ghost use Rattle.cp_rules_ranges.specs.Laws.{StaysInRange, StepsGoOn, PartsAreTaken, MessagesAreSpelled, SpelledAreInRange};
 
 /// A step leaves a sound member in range, and so does a crash; a group begins in range.
@@ -10,20 +9,9 @@ pub fn stays_in_range()
     ensures { StaysInRange }
 {}
 
-/// What each step requires of the member, the step before it leaves, and so does a crash; a group begins with it. A snapshot that
-/// is due can be taken, whatever the machine's bytes are.
+/// What each step requires of the member, the step before it leaves, and so does a crash; a group begins with it.
 pub fn steps_go_on()
     ensures { StepsGoOn }
-{}
-
-/// What the records of a journal stand for is in range, whatever they are.
-pub fn opens_in_range()
-    ensures { OpensInRange }
-{}
-
-/// So a member that starts from them may take steps in each group that stands.
-pub fn opens_ready()
-    ensures { OpensReady }
 {}
 
 /// The part of a step is legal after what is stored, has a spelling, and fits a record of the journal.
