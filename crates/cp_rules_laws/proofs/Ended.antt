@@ -22,7 +22,7 @@ use Rattle.cp_log_rules.specs.Durable.{DurableState, group_at, has_group, has_en
 use Rattle.cp_log_rules.specs.Legal.{is_legal, if_stands, may_vote, may_append, may_snapshot, are_short}
 use Rattle.cp_log_rules.specs.Recovery.{after_part, after_read, after_body, or_bad, recovered_from}
 use Rattle.cp_log_rules.proofs.Groups.{others_stay}
-use Rattle.cp_rules_laws.specs.Ended.{last_state, HasGone, EndedGroupsStay}
+use Rattle.cp_rules_laws.specs.Ended.{or_before, of_state, last_state, HasGone, EndedGroupsStay}
 
 -- ---- rows of other groups
 
@@ -141,6 +141,16 @@ unfolding recovered_from
 none_is place s t is = ok_is s t is
 
 module _ (g : ℕ) where
+  after_one : (s u : DurableState) (body : List ℕ) (bodies : List (List ℕ)) → after_body body s ≡ Some u → last_state g s (body ∷ bodies) ≡ or_before (last_state g u bodies) (group_at s g)
+  after_one s u body bodies is = ap (λ (o : Option DurableState). or_before (of_state o (λ t. last_state g t bodies)) (group_at s g)) is
+
+  -- where the rest has no state, or has one
+  none_behind : (s u : DurableState) (body : List ℕ) (bodies : List (List ℕ)) → after_body body s ≡ Some u → last_state g u bodies ≡ None → last_state g s (body ∷ bodies) ≡ group_at s g
+  none_behind s u body bodies is none = after_one s u body bodies is ∙ ap (λ (o : Option PersistentState). or_before o (group_at s g)) none
+
+  some_behind : (s u : DurableState) (body : List ℕ) (bodies : List (List ℕ)) (p : PersistentState) → after_body body s ≡ Some u → last_state g u bodies ≡ Some p → last_state g s (body ∷ bodies) ≡ Some p
+  some_behind s u body bodies p is some = after_one s u body bodies is ∙ ap (λ (o : Option PersistentState). or_before o (group_at s g)) some
+
   stays : (s t : DurableState) (place : ℕ) (bodies : List (List ℕ)) → HasGone g s → recovered_from place s bodies ≡ Ok t → HasGone g t
   stays s t place [] gone is = subst (HasGone g) (none_is place s t is) gone
   stays s t place (body ∷ bodies) gone is =
@@ -151,28 +161,23 @@ module _ (g : ℕ) where
   no_more s t place [] gone is = gone.stands_not
   no_more s t place (body ∷ bodies) gone is =
       let x = next_of place s t body bodies is in
-      let later = no_more x.middle t (place + (length body + 5)) bodies (body_stays g body s x.middle x.first gone) x.rest in
-      rw (x.first, later) gone.stands_not
+      none_behind s x.middle body bodies x.first (no_more x.middle t (place + (length body + 5)) bodies (body_stays g body s x.middle x.first gone) x.rest) ∙ gone.stands_not
 
   stands : (s t : DurableState) (place : ℕ) (bodies : List (List ℕ)) (p : PersistentState) → recovered_from place s bodies ≡ Ok t → group_at t g ≡ Some p → last_state g s bodies ≡ Some p
   stands s t place [] p is there = ap (λ (u : DurableState). group_at u g) (none_is place s t is) ∙ there
   stands s t place (body ∷ bodies) p is there =
       let x = next_of place s t body bodies is in
-      let later = stands x.middle t (place + (length body + 5)) bodies p x.rest there in
-      rw (x.first, later) refl
+      some_behind s x.middle body bodies p x.first (stands x.middle t (place + (length body + 5)) bodies p x.rest there)
 
   ended : (s t : DurableState) (place : ℕ) (before : List (List ℕ)) (p : PersistentState) → recovered_from place s before ≡ Ok t → group_at t g ≡ Some p
       → (u : DurableState) (body : List ℕ) → after_body body t ≡ Some u → HasGone g u
       → (x : DurableState) (other : ℕ) (behind : List (List ℕ)) → recovered_from other u behind ≡ Ok x → last_state g s (before ++ body ∷ behind) ≡ Some p
   ended s t place [] p is there u body ends gone x other behind more =
       let same = none_is place s t is in
-      let first : after_body body s ≡ Some u = ap (after_body body) same ∙ ends in
-      let later = no_more u x other behind gone more in
-      rw (first, later) (ap (λ (v : DurableState). group_at v g) same ∙ there)
+      none_behind s u body behind (ap (after_body body) same ∙ ends) (no_more u x other behind gone more) ∙ ap (λ (v : DurableState). group_at v g) same ∙ there
   ended s t place (b ∷ before) p is there u body ends gone x other behind more =
       let y = next_of place s t b before is in
-      let later = ended y.middle t (place + (length b + 5)) before p y.rest there u body ends gone x other behind more in
-      rw (y.first, later) refl
+      some_behind s y.middle b (before ++ body ∷ behind) p y.first (ended y.middle t (place + (length b + 5)) before p y.rest there u body ends gone x other behind more)
 
 pub ended_groups_stay : EndedGroupsStay
 ended_groups_stay g = record { stands = stands g; stays = stays g; ended = ended g }

@@ -11,10 +11,10 @@ use Rattle.cp_agreement_facts.specs.Logs.{HasTerm}
 use Rattle.cp_safety.specs.Laws.{CommitsFrontOf, HasEntry, IsHeldBy}
 use Rattle.cp_log_rules.specs.Persistent.{entry_at}
 use Rattle.cp_rules_facts.specs.Executions.{Local, LocalCluster, Act, left_by, local_after}
-use Rattle.cp_rules_laws.specs.Moments.{IsLocalMoment, agreed, AgreesThroughout}
+use Rattle.cp_rules_laws.specs.Moments.{IsLocalMoment, agreed}
 use Rattle.cp_rules_laws.specs.Histories.{HasHistory, ThereIsOneHistory}
 use Rattle.cp_rules_laws.proofs.Moves.{above}
-use Rattle.cp_rules_laws.proofs.Moments.{now_moment, some_quorum, members_agree}
+use Rattle.cp_rules_laws.proofs.Moments.{Behind, behind, now_moment, some_quorum}
 
 -- ---- the greatest commit
 
@@ -95,7 +95,7 @@ held_cut h n place m less x = ⊎_elim
     (λ (z : (e : LogEntry) × (slice_get h place ≡ Some e) × HasEntry m (suc place) e). inr (z.0, get-take h n place less ∙ z.1, z.2))
     x
 
-module _ (first : Config) (acts : List Act) (x : AgreesThroughout first acts) where
+module _ (first : Config) (acts : List Act) (x : Behind first acts) where
   abbrev n : ℕ
   n = greatest first acts
 
@@ -138,4 +138,4 @@ module _ (first : Config) (acts : List Act) (x : AgreesThroughout first acts) wh
   }
 
 pub there_is_one_history : ThereIsOneHistory
-there_is_one_history first acts is = cut first acts (members_agree first acts is)
+there_is_one_history first acts is = cut first acts (behind first acts is)

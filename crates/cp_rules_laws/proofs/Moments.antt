@@ -85,47 +85,49 @@ led_is first (a ∷ before) steps (p, ps, is, actor, leads, left, rest) m l (inl
 led_is first (a ∷ before) steps (p, ps, is, actor, leads, left, rest) m l (inr led) =
     subst (λ k. safety.Led k m (agreed l)) (sym is) (inr (led_is first before ps rest m l led))
 
--- who is left as Leader led in the act
-led_by_role : (first : Config) (a : Act) (before : List Act) → IsExecution first (a ∷ before) → (left_by (local_after first before) a).state.role ≡ Leader → (did (local_after first before) a).leads ≡ true
-led_by_role first a before is = by a.cut
-  where
-    abbrev w : LocalCluster
-    w = local_after first before
+module _ (first : Config) (a : Act) (before : List Act) (is : IsExecution first (a ∷ before)) where
+  abbrev w : LocalCluster
+  w = local_after first before
 
-    abbrev l : Local
-    l = w.member a.actor
+  abbrev l : Local
+  l = w.member a.actor
 
-    sound : IsSound a.actor l.stored l.state
-    sound = (local_executions first before is.1).sound a.actor is.0.named
+  sound : IsSound a.actor l.stored l.state
+  sound = (local_executions first before is.1).sound a.actor is.0.named
 
-    of_event : (event : Option Event) → a.event ≡ event → (step_of a.actor l.stored l.state event).state.role ≡ Leader → (step_of a.actor l.stored l.state event).leads ≡ true
-    of_event None event_is lead = ap is_leader lead
-    of_event (Some e) event_is lead = (step_good (own_turn a.actor l.stored l.state (came_by a.actor (Some e)) sound) e refl (is.0.fair e event_is)).facts.leads (ap seen_role lead)
+  of_event : (event : Option Event) → a.event ≡ event → (step_of a.actor l.stored l.state event).state.role ≡ Leader → (step_of a.actor l.stored l.state event).leads ≡ true
+  of_event None event_is lead = ap is_leader lead
+  of_event (Some e) event_is lead = (step_good (own_turn a.actor l.stored l.state (came_by a.actor (Some e)) sound) e refl (is.0.fair e event_is)).facts.leads (ap seen_role lead)
 
-    by : (cut : Bool) → (left_by w (record a { cut = cut })).state.role ≡ Leader → (did w a).leads ≡ true
-    by true lead = absurd (let z : Follower ≡ Leader = lead in cc)
-    by false lead = of_event a.event refl lead
+  of_cut : (cut : Bool) → (left_by w (record a { cut = cut })).state.role ≡ Leader → (did w a).leads ≡ true
+  of_cut true lead = absurd (let z : Follower ≡ Leader = lead in cc)
+  of_cut false lead = of_event a.event refl lead
+
+  -- who is left as Leader led in the act
+  led_now : (m : ℕ) → m ≡ a.actor → ((local_after first (a ∷ before)).member m).state.role ≡ Leader → LeadsIn w a m ((local_after first (a ∷ before)).member m)
+  led_now m e lead =
+      let same = put_same w.member a.actor (left_by w a) m e in
+      (sym e, of_cut a.cut (subst (λ (k : Local). k.state.role ≡ Leader) same lead), sym same)
+
+  other_same : (m : ℕ) → (m ≡ a.actor → ⊥) → (local_after first (a ∷ before)).member m ≡ w.member m
+  other_same m ne = put_other w.member a.actor (left_by w a) m ne
+
+leader_now : (first : Config) (acts : List Act) → IsExecution first acts → (m : ℕ) → ((local_after first acts).member m).state.role ≡ Leader → Led first acts m ((local_after first acts).member m)
+leader_now first [] is m lead = absurd (let z : Follower ≡ Leader = lead in cc)
+leader_now first (a ∷ before) is m lead = ⊎_elim
+    (λ (e : m ≡ a.actor). inl (led_now first a before is m e lead))
+    (λ (ne : m ≡ a.actor → ⊥).
+    let same = other_same first a before is m ne in
+    subst (λ (k : Local). Led first (a ∷ before) m k) (sym same) (inr (leader_now first before is.1 m (subst (λ (k : Local). k.state.role ≡ Leader) same lead))))
+    (cases_eq m a.actor)
 
 leaders_led : (first : Config) (acts : List Act) → IsExecution first acts → (v : LocalCluster) → IsLocalMoment first acts v → (m : ℕ) → (v.member m).state.role ≡ Leader → Led first acts m (v.member m)
 leaders_led first [] is v at m lead = absurd (let z : Follower ≡ Leader = subst (λ (w : LocalCluster). (w.member m).state.role ≡ Leader) at lead in cc)
 leaders_led first (a ∷ before) is v at m lead = ⊎_elim
     (λ (now : v ≡ local_after first (a ∷ before)).
-    subst (λ (x : LocalCluster). Led first (a ∷ before) m (x.member m)) (sym now) (here (subst (λ (x : LocalCluster). (x.member m).state.role ≡ Leader) now lead)))
+    subst (λ (x : LocalCluster). Led first (a ∷ before) m (x.member m)) (sym now) (leader_now first (a ∷ before) is m (subst (λ (x : LocalCluster). (x.member m).state.role ≡ Leader) now lead)))
     (λ (old : IsLocalMoment first before v). inr (leaders_led first before is.1 v old m lead))
     at
-  where
-    abbrev w : LocalCluster
-    w = local_after first before
-
-    here : ((local_after first (a ∷ before)).member m).state.role ≡ Leader → Led first (a ∷ before) m ((local_after first (a ∷ before)).member m)
-    here lead = ⊎_elim
-        (λ (e : m ≡ a.actor).
-        let same = put_same w.member a.actor (left_by w a) m e in
-        inl (sym e, led_by_role first a before is (subst (λ (l : Local). l.state.role ≡ Leader) same lead), sym same))
-        (λ (ne : m ≡ a.actor → ⊥).
-        let same = put_other w.member a.actor (left_by w a) m ne in
-        subst (λ (l : Local). Led first (a ∷ before) m l) (sym same) (inr (leaders_led first before is.1 w (now_moment first before) m (subst (λ (l : Local). l.state.role ≡ Leader) same lead))))
-        (cases_eq m a.actor)
 
 -- ---- the laws
 
@@ -169,16 +171,26 @@ module _ (first : Config) (acts : List Act) (is : IsExecution first acts) (steps
               (λ n z. subst (IsHeldBy history place) (end_same first acts is steps through n) z) y.2,
         )
 
+-- a history of the execution, which may have more than was committed
+pub record Behind (first : Config) (acts : List Act) : Type 0 where
+  pub history : List LogEntry
+  pub committed : (v : LocalCluster) → IsLocalMoment first acts v → (m : ℕ) → CommitsFrontOf first.members history (agreed (v.member m))
+  pub held : (v : LocalCluster) → IsLocalMoment first acts v → (m place : ℕ) → place < (v.member m).state.commit
+      → (members : List ℕ) × AreAdjacent (configuration_at first.members history (suc place)) members
+      × HasQuorum members (λ n. IsHeldBy history place (agreed ((local_after first acts).member n)))
+
+pub behind : (first : Config) (acts : List Act) → IsExecution first acts → Behind first acts
+behind first acts is =
+    let (steps, meets, through, leaders) = led_executions reader first.members (seen_acts first acts) (local_executions first acts is).meets in
+    let h = held_at_end first.members steps meets in
+    record { history = h.0; committed = front first acts is steps meets through h.0 h.1; held = held first acts is steps meets through h.0 h.1 h.2 }
+
 pub members_agree : MembersAgree
 members_agree first acts is =
     let (steps, meets, through, leaders) = led_executions reader first.members (seen_acts first acts) (local_executions first acts is).meets in
-    let h = held_at_end first.members steps meets in
     record {
-      history = h.0;
       one_leader = λ m n l k led_m led_n same. one_led first.members steps meets m n (agreed l) (agreed k) (led_is first acts steps leaders m l led_m) (led_is first acts steps leaders n k led_n) same;
       leaders_led = leaders_led first acts is;
       equal_prefixes = equal first acts is steps meets through;
       later_leaders = λ v a m n l led less. later first acts is steps meets through v a m n l (led_is first acts steps leaders n l led) less;
-      committed = front first acts is steps meets through h.0 h.1;
-      held = held first acts is steps meets through h.0 h.1 h.2;
     }

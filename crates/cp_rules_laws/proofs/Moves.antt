@@ -1,5 +1,5 @@
 -- How commit and base move, and where the entries of one step come from, read off from what the step writes.
-use Rattle.std.proofs.Common.{◌≡◌, ℕ, suc, ◌+◌, ◌-◌, ◌<◌, ◌≤◌, ◌⊎◌, inl, inr, ⊎_elim, true, false, List, [], ◌∷◌, ◌++◌, take, drop, refl, ap, ap₂, sym, ◌∙◌, subst, arith, Option, Some, None, slice_get, nat_lt, if◌then◌else◌, Contains, le_of_eq, ltb-true, length-take}
+use Rattle.std.proofs.Common.{◌≡◌, ℕ, suc, ◌+◌, ◌-◌, ◌<◌, ◌≤◌, ◌⊎◌, inl, inr, ⊎_elim, true, false, List, [], ◌∷◌, ◌++◌, length, take, drop, refl, ap, ap₂, sym, ◌∙◌, subst, arith, Option, Some, None, slice_get, nat_lt, if◌then◌else◌, Contains, le_of_eq, ltb-true, length-take}
 use Rattle.std.proofs.lemmas.Bool.{cases_Bool, cases_lt, lt-ltb}
 use Rattle.std.proofs.lemmas.List.Elements.{All-contains}
 use Rattle.cp_agreement.proofs.Logs.{has_place, get-take, get-drop, get-append_left, get-append_right, push_cases}
@@ -8,7 +8,7 @@ use Rattle.cp_log_rules.specs.Persistent as stored
 use Rattle.cp_log_rules.specs.Persistent.{PersistentState, last, entry_at, suffix_behind}
 use Rattle.cp_rules.specs.Persistent.{after_part}
 use Rattle.cp_rules.specs.Volatile.{VolatileState}
-use Rattle.cp_rules.specs.Local.{Append, send, Event, LocalStep}
+use Rattle.cp_rules.specs.Local.{Append, send, Event}
 use Rattle.cp_rules.specs.Snapshots.{own_head}
 use Rattle.cp_rules.specs.Steps.{step}
 use Rattle.cp_rules_facts.specs.Seen.{came_with}
@@ -182,22 +182,19 @@ sends_own me p v event sound fair to term previous previous_term commit entries 
     let at_is = x.previous_is in
     above q.base q.log (suc (previous + k)) (omega (arith, at_is)) ∙ ap (slice_get q.log) (omega (arith, at_is)) ∙ x.piece k e is
 
-pub entries_come_from : EntriesComeFrom
-entries_come_from me p v event sound fair = record { log = log; sends = sends_own me p v event sound fair }
-  where
-    abbrev s : LocalStep
-    s = step me p v event
+log_from : (me : ℕ) (p : PersistentState) (v : VolatileState) (event : Event) → IsSound me p v → IsFair p v event → (i : ℕ) (e : LogEntry) → entry_at (after_part (step me p v event).part p) i ≡ Some e
+    → (entry_at p i ≡ Some e) ⊎ (CameAt event i e ⊎ MakesAt p event (step me p v event) i e)
+log_from me p v event sound fair i e is =
+    let s = step me p v event in
+    ⊎_elim
+    (λ a. inl a)
+    (λ z. inr (⊎_elim
+    (λ a. inl a)
+    (λ (a : (y : MakesEntry p event (after p s)) × (i ≡ suc (last p)) × (y.entry ≡ e)).
+    let y = a.0 in
+    inr (subst (λ (f : LogEntry). MakesAt p event s i f) a.2 (record { index_is = a.1; term_is = y.term; leads = y.leads; made = y.made })))
+    z))
+    (comes p v event (after p s) sound.above_base sound.within (steps_write me p v event sound fair) i e is)
 
-    log : (i : ℕ) (e : LogEntry) → entry_at (after_part s.part p) i ≡ Some e → (entry_at p i ≡ Some e) ⊎ (CameAt event i e ⊎ MakesAt p event s i e)
-    log i e is = ⊎_elim
-        (λ a. inl a)
-        (λ z. inr (⊎_elim
-        (λ a. inl a)
-        (λ (a : (y : MakesEntry p event (after p s)) × (i ≡ suc (last p)) × (y.entry ≡ e)). let y = a.0 in inr (subst (λ (f : LogEntry). MakesAt p event s i f) a.2 (record {
-          index_is = a.1;
-          term_is = y.term;
-          leads = y.leads;
-          made = y.made;
-        })))
-        z))
-        (comes p v event (after p s) sound.above_base sound.within (steps_write me p v event sound fair) i e is)
+pub entries_come_from : EntriesComeFrom
+entries_come_from me p v event sound fair = record { log = log_from me p v event sound fair; sends = sends_own me p v event sound fair }

@@ -1,12 +1,10 @@
 -- Agreement between any two moments of one execution of local steps, and between any two leaders of it.
-use Rattle.std.specs.Prelude.{◌≡◌, ℕ, suc, ◌<◌, ◌≤◌, ◌⊎◌, true, List, [], ◌∷◌}
+use Rattle.std.specs.Prelude.{◌≡◌, ℕ, ◌<◌, ◌≤◌, ◌⊎◌, true, List, [], ◌∷◌}
 use Rattle.cp_parts.specs.declared.config.Config.{Config}
-use Rattle.cp_parts.specs.declared.log_entry.LogEntry.{LogEntry}
-use Rattle.cp_agreement_facts.specs.Configurations.{configuration_at, HasQuorum, AreAdjacent}
 use Rattle.cp_agreement_facts.specs.Clusters.{Member}
 use Rattle.cp_agreement_facts.specs.Facts.{KnowsTerm}
 use Rattle.cp_safety.specs.Tracking.{untracked}
-use Rattle.cp_safety.specs.Laws.{AgreeUpTo, CommitsFrontOf, IsHeldBy}
+use Rattle.cp_safety.specs.Laws.{AgreeUpTo}
 use Rattle.cp_rules.specs.declared.role.Role.TheVariants.{Leader}
 use Rattle.cp_log_rules.specs.Persistent.{last}
 use Rattle.cp_rules_facts.specs.Seen.{tracked_member}
@@ -30,9 +28,8 @@ abbrev pub Led : Config → List Act → ℕ → Local → Type 0
 Led first [] m l = ⊥
 Led first (a ∷ before) m l = LeadsIn (local_after first before) a m l ⊎ Led first before m l
 
--- What holds of any two members at any two moments, of any two acts in which a member led, and of one history.
+-- What holds of any two members at any two moments, and of any two acts in which a member led.
 pub record AgreesThroughout (first : Config) (acts : List Act) : Type 0 where
-  pub history : List LogEntry
   -- no two members lead in one term
   pub one_leader : (m n : ℕ) (l k : Local) → Led first acts m l → Led first acts n k → l.stored.term ≡ k.stored.term → m ≡ n
   -- one that is Leader at a moment led in the act that left it so
@@ -43,12 +40,6 @@ pub record AgreesThroughout (first : Config) (acts : List Act) : Type 0 where
   -- what a member has committed each leader of a later term has
   pub later_leaders : (v : LocalCluster) → IsLocalMoment first acts v → (m n : ℕ) (l : Local) → Led first acts n l → (v.member m).stored.term < l.stored.term
       → AgreeUpTo (v.member m).state.commit (agreed (v.member m)) (agreed l) × ((v.member m).state.commit ≤ last l.stored)
-  -- what a member has committed is a front of the history
-  pub committed : (v : LocalCluster) → IsLocalMoment first acts v → (m : ℕ) → CommitsFrontOf first.members history (agreed (v.member m))
-  -- what was committed at any moment is held at the end by a quorum
-  pub held : (v : LocalCluster) → IsLocalMoment first acts v → (m place : ℕ) → place < (v.member m).state.commit
-      → (members : List ℕ) × AreAdjacent (configuration_at first.members history (suc place)) members
-      × HasQuorum members (λ n. IsHeldBy history place (agreed ((local_after first acts).member n)))
 
 abbrev pub MembersAgree : Type 0
 MembersAgree = (first : Config) (acts : List Act) → IsExecution first acts → AgreesThroughout first acts
