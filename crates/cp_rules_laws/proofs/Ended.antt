@@ -63,14 +63,14 @@ or_right false b e = e
 
 key_stays : (p : ℕ → Bool) (keys : List ℕ) (k : ℕ) → list_any p keys ≡ true → list_any p (insert_key nat_cmp keys k) ≡ true
 key_stays p [] k has = absurd (true≢false (sym has))
-key_stays p (x ∷ xs) k has = by (nat_cmp k x)
+key_stays p (x ∷ xs) k has = by (λ e. key_stays p xs k e) (nat_cmp k x)
   where
-    by : (o : Ordering) → list_any p (match_ordering o (k ∷ x ∷ xs) (x ∷ xs) (x ∷ insert_key nat_cmp xs k)) ≡ true
-    by Less = or_right (p k) (p x || list_any p xs) has
-    by Equal = has
-    by Greater = ⊎_elim
+    by : (list_any p xs ≡ true → list_any p (insert_key nat_cmp xs k) ≡ true) → (o : Ordering) → list_any p (match_ordering o (k ∷ x ∷ xs) (x ∷ xs) (x ∷ insert_key nat_cmp xs k)) ≡ true
+    by rest Less = or_right (p k) (p x || list_any p xs) has
+    by rest Equal = has
+    by rest Greater = ⊎_elim
         (λ (e : p x ≡ true). or_left (p x) (list_any p (insert_key nat_cmp xs k)) e)
-        (λ (e : list_any p xs ≡ true). or_right (p x) (list_any p (insert_key nat_cmp xs k)) (key_stays p xs k e))
+        (λ (e : list_any p xs ≡ true). or_right (p x) (list_any p (insert_key nat_cmp xs k)) (rest e))
         (or_cases (p x) (list_any p xs) has)
 
 -- ---- a part
