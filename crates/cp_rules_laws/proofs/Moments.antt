@@ -1,6 +1,6 @@
 -- Each moment of an execution of local steps is one of the execution that agreement sees, and each act in which a member leads is a step of
 -- it in which that member leads. So its laws hold between any two.
-use Rattle.std.proofs.Common.{◌≡◌, ℕ, suc, ◌<◌, ◌≤◌, ◌⊎◌, inl, inr, ⊎_elim, Bool, true, false, List, [], ◌∷◌, refl, ap, sym, ◌∙◌, subst, Option, Some, None, if◌then◌else◌, true≢false}
+use Rattle.std.proofs.Common.{◌≡◌, ℕ, suc, ◌<◌, ◌≤◌, ◌⊎◌, inl, inr, ⊎_elim, Bool, true, false, List, [], ◌∷◌, refl, ap, sym, ◌∙◌, subst, Option, Some, None}
 use Rattle.std.proofs.lemmas.Bool.{cases_Bool, cases_eq}
 use Rattle.cp_agreement.proofs.Ghost.{put_same, put_other}
 use Rattle.cp_parts.specs.declared.config.Config.{Config}
@@ -9,12 +9,11 @@ use Rattle.cp_agreement_facts.specs.Configurations.{configuration_at, HasQuorum,
 use Rattle.cp_agreement_facts.specs.Clusters.{Member, Cluster, Step, cluster_after, IsMoment}
 use Rattle.cp_agreement_facts.specs.Facts.{KnowsTerm, MeetsFacts}
 use Rattle.cp_safety.specs.Tracking.{untracked}
-use Rattle.cp_safety.specs.Chunks.{ChunkedMember, MembersThrough, LedThrough, chunked_restart, chunked_left}
+use Rattle.cp_safety.specs.Chunks.{ChunkedMember, MembersThrough, LedThrough, chunked_left}
 use Rattle.cp_safety.specs.Laws as safety
 use Rattle.cp_safety.specs.Laws.{AgreeUpTo, CommitsFrontOf, IsHistory, IsHeldBy}
 use Rattle.cp_safety.proofs.Chunks.{led_executions}
 use Rattle.cp_safety.proofs.Laws.{one_led, equal_prefixes, later_led, held_at_end}
-use Rattle.cp_rules.specs.declared.role.Role.{Role}
 use Rattle.cp_rules.specs.declared.role.Role.TheVariants.{Follower, Leader}
 use Rattle.cp_rules.specs.Local.{Event, is_leader}
 use Rattle.cp_log_rules.specs.Persistent.{last}

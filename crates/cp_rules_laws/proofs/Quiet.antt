@@ -13,7 +13,7 @@ use Rattle.cp_rules.specs.declared.outcome.Outcome.{Outcome}
 use Rattle.cp_rules.specs.declared.outcome.Outcome.TheVariants.{Done, Proposed, Refused}
 use Rattle.cp_rules.specs.Limits.{most_looks}
 use Rattle.cp_rules.specs.Spelling.{members_entry, empty_entry}
-use Rattle.cp_rules.specs.Persistent.{ballot, log_end, members, is_member, with_part, after_part, ballot_part}
+use Rattle.cp_rules.specs.Persistent.{ballot, log_end, members, is_member, with_part, ballot_part}
 use Rattle.cp_rules.specs.Volatile.{VolatileState, peer, new_peer, with_peer}
 use Rattle.cp_rules.specs.Local.{VoteReply, Event, Propose, ChangeMembers, LocalStep, Sent, does, leads_and, reply, is_leader, is_candidate, is_pre_candidate}
 use Rattle.cp_rules.specs.Terms.{adopted, steps_down, steps_down_for, adopts}
@@ -31,7 +31,7 @@ use Rattle.cp_rules_facts.specs.Soundness.{IsSound}
 use Rattle.cp_rules_facts.proofs.Basics.{either}
 use Rattle.cp_rules_facts.proofs.Quiet.{after_ballot}
 use Rattle.cp_rules_facts.proofs.Commits.{found, committing}
-use Rattle.cp_rules_laws.specs.Writes.{After, after, IsMade, MakesEntry, Writes}
+use Rattle.cp_rules_laws.specs.Writes.{after, IsMade, MakesEntry, Writes}
 
 -- a sound member before its step
 pub record At : Type 0 where

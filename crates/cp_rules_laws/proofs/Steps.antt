@@ -1,7 +1,7 @@
 -- A tick, what comes after each rule, and so each step.
-use Rattle.std.proofs.Common.{◌||◌, ◌&&◌, ◌==◌, ◌≡◌, ℕ, suc, ◌-◌, inl, inr, ⊎_elim, not, Bool, true, List, [], ◌++◌, length, map, filter, refl, ap, sym, ◌∙◌, subst, arith, Option, Some, None, is_none, nat_lt, nat_le, if◌then◌else◌, le_refl}
+use Rattle.std.proofs.Common.{◌||◌, ◌&&◌, ◌==◌, ◌≡◌, ℕ, suc, ◌-◌, inl, inr, not, Bool, true, List, [], ◌++◌, length, map, filter, refl, ap, sym, subst, Option, Some, None, is_none, nat_lt, nat_le, if◌then◌else◌, le_refl}
 use Rattle.cp_parts.specs.declared.snapshot_head.SnapshotHead.{SnapshotHead}
-use Rattle.cp_log_rules.specs.Persistent.{PersistentState, last, with_head}
+use Rattle.cp_log_rules.specs.Persistent.{last, with_head}
 use Rattle.cp_rules.specs.declared.ballot.Ballot.{Ballot}
 use Rattle.cp_rules.specs.declared.outcome.Outcome.TheVariants.{Done}
 use Rattle.cp_rules.specs.declared.role.Role.{Role}

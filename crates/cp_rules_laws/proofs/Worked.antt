@@ -1,5 +1,5 @@
 -- What no step leaves, case by case.
-use Rattle.std.proofs.Common.{◌≡◌, ℕ, zero, ◌+◌, ◌-◌, ◌≤◌, inl, ⊎_elim, true, true≢false, List, [], ◌∷◌, ◌++◌, length, take, refl, ap, sym, ◌∙◌, subst, arith, Some, None, slice_get, length-append, length-take}
+use Rattle.std.proofs.Common.{◌≡◌, ◌+◌, ◌-◌, inl, ⊎_elim, true, true≢false, List, [], ◌∷◌, ◌++◌, length, take, refl, ap, sym, ◌∙◌, subst, arith, Some, None, slice_get, length-append, length-take}
 use Rattle.cp_parts.specs.declared.log_entry.LogEntry.{LogEntry}
 use Rattle.std.proofs.lemmas.Option.{same_Some}
 use Rattle.cp_codec.specs.Fields.{big_endian}
@@ -13,7 +13,7 @@ use Rattle.cp_rules.specs.Local.{Tick}
 use Rattle.cp_rules.specs.Worked.{second, empty, entry, call}
 use Rattle.cp_rules_facts.specs.Soundness.{IsFair}
 use Rattle.cp_rules_facts.specs.Executions.{opening, IsExecution}
-use Rattle.cp_rules_laws.specs.Writes.{After, KeepsLog, FollowsEntries, MakesEntry, TakesOwn, Installs, Writes}
+use Rattle.cp_rules_laws.specs.Writes.{After, KeepsLog, FollowsEntries, MakesEntry, TakesOwn, Installs}
 use Rattle.cp_rules_laws.specs.Origins.{Makes}
 use Rattle.cp_rules_laws.specs.Worked.{alone, cut_off, has_committed, asked, IsNoStep, forgets, falls, makes_as_follower, answers_nothing}
 

@@ -47,3 +47,10 @@ AreHanded P first (a ∷ before) = IsHanded P ((local_after first before).member
 abbrev pub SnapshotsHave : Type 1
 SnapshotsHave = (P : Property) (first : Config) (acts : List Act) → IsExecution first acts → AreHanded P first acts
     → (v : LocalCluster) → IsLocalMoment first acts v → (m : ℕ) → 0 < (v.member m).stored.base → P (v.member m).stored.base (v.member m).stored.snapshot
+
+-- ---- so as a law again, for whatever snapshots are read as
+
+-- Where each snapshot that is handed is read as the view at its index, so is each that a member has.
+abbrev pub SnapshotsRead : {V : Type 0} → (List ℕ → V) → (ℕ → V) → Type 0
+SnapshotsRead reads view = (first : Config) (acts : List Act) → IsExecution first acts → AreHanded (λ index text. reads text ≡ view index) first acts
+    → (v : LocalCluster) → IsLocalMoment first acts v → (m : ℕ) → 0 < (v.member m).stored.base → reads (v.member m).stored.snapshot ≡ view (v.member m).stored.base

@@ -1,8 +1,7 @@
 -- Acts worked out by hand, and what is left that no step may leave.
-use Rattle.std.specs.Prelude.{◌≡◌, ℕ, true, false, List, [], ◌∷◌, Option, Some, None}
+use Rattle.std.specs.Prelude.{ℕ, true, false, List, [], ◌∷◌, Some, None}
 use Rattle.cp_parts.specs.declared.config.Config.{Config}
 use Rattle.cp_parts.specs.declared.log_entry.LogEntry.{LogEntry}
-use Rattle.cp_log_rules.specs.Persistent.{PersistentState}
 use Rattle.cp_rules.specs.declared.outcome.Outcome.TheVariants.{Done, Proposed}
 use Rattle.cp_rules.specs.Volatile.{VolatileState, started}
 use Rattle.cp_rules.specs.Local.{Event, Tick, Propose}

@@ -3,7 +3,7 @@
 //! member has of a group that has ended. No code: the functions below state laws.
 #![tactic(auto)]
 
-ghost use Rattle.std.specs.Prelude.{◌≡◌, [], ◌∷◌};
+ghost use Rattle.std.specs.Prelude.{ℕ, ◌≡◌, List, [], ◌∷◌};
 ghost use Rattle.cp_rules.specs.declared.role.Role.TheVariants.{Follower};
 ghost use Rattle.cp_rules.specs.Worked.{empty};
 ghost use Rattle.cp_rules_facts.specs.Executions.{IsExecution};
@@ -12,7 +12,7 @@ ghost use Rattle.cp_rules_laws.specs.Moves.{CommitsRise};
 ghost use Rattle.cp_rules_laws.specs.Origins.{EntriesComeFrom, EntriesWereMade, WasMade};
 ghost use Rattle.cp_rules_laws.specs.Moments.{Led, MembersAgree};
 ghost use Rattle.cp_rules_laws.specs.Histories.{ThereIsOneHistory};
-ghost use Rattle.cp_rules_laws.specs.Snapshots.{SnapshotsWereTaken};
+ghost use Rattle.cp_rules_laws.specs.Snapshots.{SnapshotsWereTaken, SnapshotsRead};
 ghost use Rattle.cp_rules_laws.specs.Ended.{EndedGroupsStay};
 ghost use Rattle.cp_rules_laws.specs.Worked.{IsNoStep, alone, cut_off, crashed, forgets, falls, makes_as_follower, answers_nothing};
 
@@ -53,6 +53,12 @@ pub fn there_is_one_history()
 /// Each snapshot that a member has is one that some member took, byte by byte.
 pub fn snapshots_were_taken()
     ensures { SnapshotsWereTaken }
+{}
+
+/// Where each snapshot that a member takes is read as the view at its index, as a machine's state after so many entries, so is each
+/// that any member has.
+pub fn snapshots_read<V>()
+    ensures { (reads : List ℕ → V) (view : ℕ → V) → SnapshotsRead reads view }
 {}
 
 /// A group that has ended never stands again, and over the whole journal its last state is the one right before its end.
