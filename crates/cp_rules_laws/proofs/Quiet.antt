@@ -1,5 +1,5 @@
 -- What is shown of each rule, and the rules that write no more than a ballot, or one entry that a leader makes.
-use Rattle.std.proofs.Common.{◌==◌, ◌&&◌, ◌≡◌, ℕ, suc, ◌+◌, ◌-◌, ◌≤◌, inl, inr, ⊎_elim, not, Bool, true, false, List, [], ◌∷◌, ◌++◌, length, take, refl, ap, sym, ◌∙◌, subst, arith, Option, Some, None, nat_lt, nat_le, if◌then◌else◌, le_refl}
+use Rattle.std.proofs.Common.{◌==◌, ◌&&◌, ◌≡◌, ℕ, suc, ◌-◌, ◌≤◌, inl, inr, ⊎_elim, not, Bool, true, false, List, [], ◌∷◌, ◌++◌, length, take, refl, ap, sym, ◌∙◌, subst, arith, Option, Some, None, nat_lt, nat_le, if◌then◌else◌, le_refl}
 use Rattle.std.proofs.Math.Seq.{take-length}
 use Rattle.cp_base.specs.declared.identifier.Invocation.{Invocation}
 use Rattle.cp_answers.specs.declared.refusal.Refusal.{Refusal}

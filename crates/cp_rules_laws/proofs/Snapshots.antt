@@ -1,5 +1,5 @@
 -- By induction: what is installed is a snapshot that the chunk's sender had.
-use Rattle.std.proofs.Common.{◌≡◌, ℕ, ◌<◌, ◌⊎◌, inl, inr, ⊎_elim, true, List, [], ◌∷◌, refl, ap, sym, ◌∙◌, subst, arith, Option, Some, None, option_map}
+use Rattle.std.proofs.Common.{◌≡◌, ℕ, ◌<◌, inl, inr, ⊎_elim, true, List, [], ◌∷◌, refl, ap, sym, ◌∙◌, subst, arith, Option, Some, None, option_map}
 use Rattle.std.proofs.lemmas.Bool.{cases_eq}
 use Rattle.cp_agreement.proofs.Ghost.{put_same, put_other}
 use Rattle.cp_safety.specs.Chunks.{ChunkedMember, ChunkedCluster, Chunk, Joins, HadSnapshot, chunked_after}

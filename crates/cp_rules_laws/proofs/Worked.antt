@@ -1,5 +1,5 @@
 -- What no step leaves, case by case.
-use Rattle.std.proofs.Common.{◌≡◌, ◌+◌, ◌-◌, inl, ⊎_elim, true, true≢false, List, [], ◌∷◌, ◌++◌, length, take, refl, ap, sym, ◌∙◌, subst, arith, Some, None, slice_get, length-append, length-take}
+use Rattle.std.proofs.Common.{◌≡◌, ◌-◌, inl, ⊎_elim, true, true≢false, List, [], ◌∷◌, ◌++◌, length, take, refl, ap, sym, ◌∙◌, subst, arith, Some, None, slice_get, length-append, length-take}
 use Rattle.cp_parts.specs.declared.log_entry.LogEntry.{LogEntry}
 use Rattle.std.proofs.lemmas.Option.{same_Some}
 use Rattle.cp_codec.specs.Fields.{big_endian}
