@@ -6,12 +6,14 @@ use cp_remembered::Gone;
 
 fn is_gone(gone: &Gone, words: &mut Words, out: &mut Vec<u8>) -> Result<(), End> {
     let kind = words.kind()?;
-    show_flag(gone.is_gone(kind, &words.name()?)?, out)
+    let name = words.name()?;
+    show_flag(gone.is_gone(kind, &name)?, out)
 }
 
 fn add(gone: &mut Gone, words: &mut Words, out: &mut Vec<u8>) -> Result<(), End> {
     let kind = words.kind()?;
-    show_flag(gone.add(kind, &words.name()?)?, out)
+    let name = words.name()?;
+    show_flag(gone.add(kind, &name)?, out)
 }
 
 /// Makes the call that words spell, and shows its answer.

@@ -52,13 +52,16 @@ impl Tables {
     }
 }
 
+/// Empties all tables.
+fn renew(tables: &mut Tables, alloc: Global, out: &mut Vec<u8>) -> Result<(), End> {
+    *tables = Tables::new(alloc)?;
+    show(b"ok", out)
+}
+
 /// Makes the call that words spell, and shows its answer.
 fn answer_call(tables: &mut Tables, words: &mut Words, out: &mut Vec<u8>) -> Result<(), End> {
     match words.word()? {
-        b"new" => {
-            *tables = Tables::new(words.alloc())?;
-            show(b"ok", out)
-        }
+        b"new" => renew(tables, words.alloc(), out),
         b"session" => sessions::answer(&mut tables.sessions, words, out),
         b"memory" => memories::answer(&mut tables.memory, words, out),
         b"wait" => waits::answer(&mut tables.waits, words, out),
@@ -98,6 +101,17 @@ fn numbered(alloc: Global, line: &[u8], number: u64) -> Result<Vec<u8>, End> {
     Ok(out)
 }
 
+/// The answer of a line with a number in the place of each `%`.
+fn numbered_answer(
+    alloc: Global,
+    tables: &mut Tables,
+    line: &[u8],
+    number: u64,
+) -> Result<Vec<u8>, End> {
+    let line = numbered(alloc, line, number)?;
+    answer_of(alloc, tables, &line)
+}
+
 /// Makes the call of a line with each of these numbers in turn, and gives the last answer.
 fn repeated(alloc: Global, tables: &mut Tables, line: &[u8]) -> Result<Vec<u8>, End> {
     let mut words = Words::new(alloc, line);
@@ -105,7 +119,7 @@ fn repeated(alloc: Global, tables: &mut Tables, line: &[u8]) -> Result<Vec<u8>, 
     let last = words.number()?;
     let mut out = Vec::new(alloc);
     for number in first..last.saturating_add(1) {
-        out = answer_of(alloc, tables, &numbered(alloc, words.rest(), number)?)?;
+        out = numbered_answer(alloc, tables, words.rest(), number)?;
     }
     Ok(out)
 }
@@ -123,13 +137,25 @@ fn line_answer(alloc: Global, tables: &mut Tables, line: &[u8]) -> Result<Vec<u8
     }
 }
 
+/// Appends the answer of a line.
+fn append_answer(
+    alloc: Global,
+    tables: &mut Tables,
+    line: &[u8],
+    out: &mut Vec<u8>,
+) -> Result<(), End> {
+    let answer = line_answer(alloc, tables, line)?;
+    out.extend_from_slice(&answer)?;
+    out.push(b'\n')?;
+    Ok(())
+}
+
 /// The answers of the lines of a text.
 fn answers(alloc: Global, text: &str) -> Result<Vec<u8>, End> {
     let mut tables = Tables::new(alloc)?;
     let mut out = Vec::new(alloc);
     for line in text.lines() {
-        out.extend_from_slice(&line_answer(alloc, &mut tables, line.as_bytes())?)?;
-        out.push(b'\n')?;
+        append_answer(alloc, &mut tables, line.as_bytes(), &mut out)?;
     }
     Ok(out)
 }

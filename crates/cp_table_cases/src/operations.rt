@@ -1,7 +1,15 @@
 //! The operations that words spell, as answers and documents spell them.
 use crate::end::End;
 use crate::words::Words;
+use cp_base::Items;
 use cp_ops::{LatchOp, LongOp, MapOp, RefOp, SemOp};
+
+/// A swap of longs: what is there, and what comes in its place.
+fn long_swap(words: &mut Words) -> Result<LongOp, End> {
+    let expected = words.value()?;
+    let next = words.value()?;
+    Ok(LongOp::Cas(expected, next))
+}
 
 /// An operation on a long.
 pub fn long_op(words: &mut Words) -> Result<LongOp, End> {
@@ -11,9 +19,16 @@ pub fn long_op(words: &mut Words) -> Result<LongOp, End> {
         b"getset" => Ok(LongOp::GetSet(words.value()?)),
         b"add" => Ok(LongOp::Add(words.value()?)),
         b"getadd" => Ok(LongOp::GetAdd(words.value()?)),
-        b"cas" => Ok(LongOp::Cas(words.value()?, words.value()?)),
+        b"cas" => long_swap(words),
         _ => Err(End::BadLine),
     }
+}
+
+/// A swap of references: what is there, and what comes in its place.
+fn ref_swap(words: &mut Words) -> Result<RefOp, End> {
+    let expected = words.reference()?;
+    let next = words.reference()?;
+    Ok(RefOp::Cas(expected, next))
 }
 
 /// An operation on a reference.
@@ -22,8 +37,33 @@ pub fn ref_op(words: &mut Words) -> Result<RefOp, End> {
         b"get" => Ok(RefOp::Get),
         b"set" => Ok(RefOp::Set(words.reference()?)),
         b"getset" => Ok(RefOp::GetSet(words.reference()?)),
-        b"cas" => Ok(RefOp::Cas(words.reference()?, words.reference()?)),
+        b"cas" => ref_swap(words),
         b"contains" => Ok(RefOp::Contains(words.reference()?)),
+        _ => Err(End::BadLine),
+    }
+}
+
+/// A key and a value.
+fn pair(words: &mut Words) -> Result<(Items<u8>, Items<u8>), End> {
+    let key = words.bytes()?;
+    let value = words.bytes()?;
+    Ok((key, value))
+}
+
+/// A swap of values: their key, what is there, and what comes in its place.
+fn map_swap(words: &mut Words) -> Result<MapOp, End> {
+    let (key, expected) = pair(words)?;
+    let next = words.bytes()?;
+    Ok(MapOp::Cas(key, expected, next))
+}
+
+/// An operation on a map that sets the value of a key.
+fn map_write(call: &[u8], words: &mut Words) -> Result<MapOp, End> {
+    let (key, value) = pair(words)?;
+    match call {
+        b"set" => Ok(MapOp::Set(key, value)),
+        b"put" => Ok(MapOp::Put(key, value)),
+        b"putifabsent" => Ok(MapOp::PutIfAbsent(key, value)),
         _ => Err(End::BadLine),
     }
 }
@@ -32,13 +72,10 @@ pub fn ref_op(words: &mut Words) -> Result<RefOp, End> {
 pub fn map_op(words: &mut Words) -> Result<MapOp, End> {
     match words.word()? {
         b"get" => Ok(MapOp::Get(words.bytes()?)),
-        b"set" => Ok(MapOp::Set(words.bytes()?, words.bytes()?)),
-        b"put" => Ok(MapOp::Put(words.bytes()?, words.bytes()?)),
         b"remove" => Ok(MapOp::Remove(words.bytes()?)),
         b"delete" => Ok(MapOp::Delete(words.bytes()?)),
-        b"putifabsent" => Ok(MapOp::PutIfAbsent(words.bytes()?, words.bytes()?)),
-        b"cas" => Ok(MapOp::Cas(words.bytes()?, words.bytes()?, words.bytes()?)),
-        _ => Err(End::BadLine),
+        b"cas" => map_swap(words),
+        call => map_write(call, words),
     }
 }
 
@@ -54,16 +91,38 @@ pub fn latch_op(words: &mut Words) -> Result<LatchOp, End> {
     }
 }
 
+/// A session, and a number of permits.
+fn permits(words: &mut Words) -> Result<(u64, u32), End> {
+    let session = words.number()?;
+    let permits = words.count()?;
+    Ok((session, permits))
+}
+
+/// An operation on a semaphore that takes permits.
+fn sem_take(words: &mut Words) -> Result<SemOp, End> {
+    let (session, wanted) = permits(words)?;
+    let wish = words.wish()?;
+    Ok(SemOp::Acquire(session, wanted, wish))
+}
+
+/// An operation on a semaphore that names a session and permits.
+fn sem_change(call: &[u8], words: &mut Words) -> Result<SemOp, End> {
+    let (session, changed) = permits(words)?;
+    match call {
+        b"release" => Ok(SemOp::Release(session, changed)),
+        b"increase" => Ok(SemOp::Increase(session, changed)),
+        b"reduce" => Ok(SemOp::Reduce(session, changed)),
+        _ => Err(End::BadLine),
+    }
+}
+
 /// An operation on a semaphore.
 pub fn sem_op(words: &mut Words) -> Result<SemOp, End> {
     match words.word()? {
         b"available" => Ok(SemOp::Available),
         b"init" => Ok(SemOp::Init(words.count()?)),
-        b"acquire" => Ok(SemOp::Acquire(words.number()?, words.count()?, words.wish()?)),
-        b"release" => Ok(SemOp::Release(words.number()?, words.count()?)),
+        b"acquire" => sem_take(words),
         b"drain" => Ok(SemOp::Drain(words.number()?)),
-        b"increase" => Ok(SemOp::Increase(words.number()?, words.count()?)),
-        b"reduce" => Ok(SemOp::Reduce(words.number()?, words.count()?)),
-        _ => Err(End::BadLine),
+        call => sem_change(call, words),
     }
 }

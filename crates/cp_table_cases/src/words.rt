@@ -8,6 +8,47 @@ use cp_ops::{Answer, Kind, Wish};
 use std::alloc::Global;
 use uuid::Uuid;
 
+/// The number that a word is.
+fn number_of(word: &[u8]) -> Result<u64, End> {
+    match read_decimal(word) {
+        Some(number) => Ok(number),
+        None => Err(End::BadLine),
+    }
+}
+
+/// A number of 32 bits.
+fn count_of(number: u64) -> Result<u32, End> {
+    match u32::try_from(number) {
+        Ok(count) => Ok(count),
+        Err(_) => Err(End::BadLine),
+    }
+}
+
+/// The kind of an object that a word is.
+fn kind_of(word: &[u8]) -> Result<Kind, End> {
+    match word {
+        b"long" => Ok(Kind::Long),
+        b"ref" => Ok(Kind::Ref),
+        b"lock" => Ok(Kind::Lock),
+        b"sem" => Ok(Kind::Sem),
+        b"jsem" => Ok(Kind::Jsem),
+        b"latch" => Ok(Kind::Latch),
+        b"map" => Ok(Kind::Map),
+        _ => Err(End::BadLine),
+    }
+}
+
+/// The bytes that a word spells: `x`, and two digits for each.
+fn bytes_of(alloc: Global, word: &[u8]) -> Result<Items<u8>, End> {
+    let [b'x', digits @ ..] = word else {
+        return Err(End::BadLine);
+    };
+    match read_hex(alloc, digits)? {
+        Some(bytes) => Ok(Items::from_vec(bytes)),
+        None => Err(End::BadLine),
+    }
+}
+
 /// The words of a line that were not read yet.
 #[derive(Drop)]
 pub struct Words<'a> {
@@ -56,18 +97,14 @@ impl<'a> Words<'a> {
 
     /// A number.
     pub fn number(&mut self) -> Result<u64, End> {
-        match read_decimal(self.word()?) {
-            Some(number) => Ok(number),
-            None => Err(End::BadLine),
-        }
+        let word = self.word()?;
+        number_of(word)
     }
 
     /// A number of 32 bits.
     pub fn count(&mut self) -> Result<u32, End> {
-        match u32::try_from(self.number()?) {
-            Ok(count) => Ok(count),
-            Err(_) => Err(End::BadLine),
-        }
+        let number = self.number()?;
+        count_of(number)
     }
 
     /// A number of 8 bits.
@@ -98,43 +135,36 @@ impl<'a> Words<'a> {
         Ok(numbers)
     }
 
+    /// The name that a word is.
+    pub fn name_of(&self, word: &[u8]) -> Result<Name, End> {
+        Ok(Name::read(self.alloc, word)?)
+    }
+
     /// A name.
     pub fn name(&mut self) -> Result<Name, End> {
-        Ok(Name::read(self.alloc, self.word()?)?)
+        let word = self.word()?;
+        self.name_of(word)
     }
 
     /// The kind of an object.
     pub fn kind(&mut self) -> Result<Kind, End> {
-        match self.word()? {
-            b"long" => Ok(Kind::Long),
-            b"ref" => Ok(Kind::Ref),
-            b"lock" => Ok(Kind::Lock),
-            b"sem" => Ok(Kind::Sem),
-            b"jsem" => Ok(Kind::Jsem),
-            b"latch" => Ok(Kind::Latch),
-            b"map" => Ok(Kind::Map),
-            _ => Err(End::BadLine),
-        }
+        let word = self.word()?;
+        kind_of(word)
     }
 
     /// Bytes: `x`, and two digits for each.
     pub fn bytes(&mut self) -> Result<Items<u8>, End> {
-        match self.reference()? {
-            Some(bytes) => Ok(bytes),
-            None => Err(End::BadLine),
-        }
+        let word = self.word()?;
+        bytes_of(self.alloc, word)
     }
 
     /// Bytes, or `null`.
     pub fn reference(&mut self) -> Result<Option<Items<u8>>, End> {
-        match self.word()? {
-            b"null" => Ok(None),
-            [b'x', digits @ ..] => match read_hex(self.alloc, digits)? {
-                Some(bytes) => Ok(Some(Items::from_vec(bytes))),
-                None => Err(End::BadLine),
-            },
-            _ => Err(End::BadLine),
+        let word = self.word()?;
+        if word == b"null".as_slice() {
+            return Ok(None);
         }
+        Ok(Some(bytes_of(self.alloc, word)?))
     }
 
     /// The identifier of a client, by its number.
@@ -149,19 +179,21 @@ impl<'a> Words<'a> {
 
     /// A call: client, thread, number.
     pub fn call(&mut self) -> Result<Invocation, End> {
+        let client = self.client()?;
+        let thread = self.thread()?;
+        let number = self.number()?;
         Ok(Invocation {
-            client: self.client()?,
-            thread: self.thread()?,
-            number: self.number()?,
+            client,
+            thread,
+            number,
         })
     }
 
     /// A thread of a session.
     pub fn holder(&mut self) -> Result<Holder, End> {
-        Ok(Holder {
-            session: self.number()?,
-            thread: self.thread()?,
-        })
+        let session = self.number()?;
+        let thread = self.thread()?;
+        Ok(Holder { session, thread })
     }
 
     /// How long a call may wait: `none` for no limit, or milliseconds.
@@ -170,33 +202,49 @@ impl<'a> Words<'a> {
         if word == b"none".as_slice() {
             return Ok(Wish::NoLimit);
         }
-        match Words::new(self.alloc, word).count() {
-            Ok(limit) => Ok(Wish::Within(limit)),
-            Err(end) => Err(end),
-        }
+        Ok(Wish::Within(count_of(number_of(word)?)?))
     }
 
     /// A waiter: call, kind, name, session, permits, wish.
     pub fn waiter(&mut self) -> Result<Waiter, End> {
+        let call = self.call()?;
+        let kind = self.kind()?;
+        let word = self.word()?;
+        let session = self.number()?;
+        let permits = self.count()?;
+        let wish = self.wish()?;
+        let name = self.name_of(word)?;
         Ok(Waiter {
-            call: self.call()?,
-            kind: self.kind()?,
-            name: self.name()?,
-            session: self.number()?,
-            permits: self.count()?,
-            wish: self.wish()?,
+            call,
+            kind,
+            name,
+            session,
+            permits,
+            wish,
         })
     }
 
-    /// What a call was answered, of a few kinds.
-    pub fn answer(&mut self) -> Result<Answer, End> {
-        match self.word()? {
+    /// The fencing token of an answer.
+    fn fence(&mut self) -> Result<Answer, End> {
+        let token = self.number()?;
+        Ok(Answer::Fence(token))
+    }
+
+    /// What a call was answered, of a few kinds, by the first word of it.
+    pub fn answer_from(&mut self, word: &[u8]) -> Result<Answer, End> {
+        match word {
             b"ok" => Ok(Answer::Ok),
             b"true" => Ok(Answer::Bool(true)),
             b"false" => Ok(Answer::Bool(false)),
             b"timed-out" => Ok(Answer::TimedOut),
-            b"fence" => Ok(Answer::Fence(self.number()?)),
+            b"fence" => self.fence(),
             _ => Err(End::BadLine),
         }
+    }
+
+    /// What a call was answered, of a few kinds.
+    pub fn answer(&mut self) -> Result<Answer, End> {
+        let word = self.word()?;
+        self.answer_from(word)
     }
 }
