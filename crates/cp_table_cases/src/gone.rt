@@ -19,9 +19,9 @@ fn add(gone: &mut Gone, words: &mut Words, out: &mut Vec<u8>) -> Result<(), End>
 /// Makes the call that words spell, and shows its answer.
 pub fn answer(gone: &mut Gone, words: &mut Words, out: &mut Vec<u8>) -> Result<(), End> {
     match words.word()? {
-        b"is-gone" => is_gone(gone, words, out),
-        b"add" => add(gone, words, out),
-        b"count" => show_number(gone.rows().len() as u64, out),
+        "is-gone" => is_gone(gone, words, out),
+        "add" => add(gone, words, out),
+        "count" => show_number(gone.rows().len() as u64, out),
         _ => Err(End::BadLine),
     }
 }

@@ -41,11 +41,11 @@ fn destroy(latches: &mut Latches, words: &mut Words, out: &mut Vec<u8>) -> Resul
 /// Makes the call that words spell, and shows its answer.
 pub fn answer(latches: &mut Latches, words: &mut Words, out: &mut Vec<u8>) -> Result<(), End> {
     match words.word()? {
-        b"apply" => apply(latches, words, out),
-        b"count-of" => count_of(latches, words, out),
-        b"round-of" => round_of(latches, words, out),
-        b"destroy" => destroy(latches, words, out),
-        b"count" => show_number(latches.rows().len() as u64, out),
+        "apply" => apply(latches, words, out),
+        "count-of" => count_of(latches, words, out),
+        "round-of" => round_of(latches, words, out),
+        "destroy" => destroy(latches, words, out),
+        "count" => show_number(latches.rows().len() as u64, out),
         _ => Err(End::BadLine),
     }
 }

@@ -143,17 +143,12 @@ fn fence(locks: &Locks, words: &mut Words, out: &mut Vec<u8>) -> Result<(), End>
 }
 
 /// Makes the call that words spell and that changes nothing, and shows its answer.
-fn answer_read(
-    locks: &Locks,
-    call: &[u8],
-    words: &mut Words,
-    out: &mut Vec<u8>,
-) -> Result<(), End> {
+fn answer_read(locks: &Locks, call: &str, words: &mut Words, out: &mut Vec<u8>) -> Result<(), End> {
     match call {
-        b"row" => row(locks, words, out),
-        b"owner" => owner(locks, words, out),
-        b"fence" => fence(locks, words, out),
-        b"count" => show_number(locks.rows().len() as u64, out),
+        "row" => row(locks, words, out),
+        "owner" => owner(locks, words, out),
+        "fence" => fence(locks, words, out),
+        "count" => show_number(locks.rows().len() as u64, out),
         _ => Err(End::BadLine),
     }
 }
@@ -161,13 +156,13 @@ fn answer_read(
 /// Makes the call that words spell, and shows its answer.
 pub fn answer(locks: &mut Locks, words: &mut Words, out: &mut Vec<u8>) -> Result<(), End> {
     match words.word()? {
-        b"from-rows" => from_rows(locks, words, out),
-        b"acquire" => acquire(locks, words, out),
-        b"release" => release(locks, words, out),
-        b"grant" => grant(locks, words, out),
-        b"close-session" => close_session(locks, words, out),
-        b"close-sessions" => close_sessions(locks, words, out),
-        b"destroy" => destroy(locks, words, out),
+        "from-rows" => from_rows(locks, words, out),
+        "acquire" => acquire(locks, words, out),
+        "release" => release(locks, words, out),
+        "grant" => grant(locks, words, out),
+        "close-session" => close_session(locks, words, out),
+        "close-sessions" => close_sessions(locks, words, out),
+        "destroy" => destroy(locks, words, out),
         call => answer_read(locks, call, words, out),
     }
 }

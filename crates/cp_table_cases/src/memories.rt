@@ -10,7 +10,7 @@ use cp_remembered::Memory;
 /// What the next words say of a call: `waits`, or its answer.
 fn state(words: &mut Words) -> Result<Option<Answer>, End> {
     let word = words.word()?;
-    if word == b"waits".as_slice() {
+    if word == "waits" {
         return Ok(None);
     }
     Ok(Some(words.answer_from(word)?))
@@ -98,12 +98,12 @@ fn forget(memory: &mut Memory, words: &mut Words, out: &mut Vec<u8>) -> Result<(
 /// Makes the call that words spell, and shows its answer.
 pub fn answer(memory: &mut Memory, words: &mut Words, out: &mut Vec<u8>) -> Result<(), End> {
     match words.word()? {
-        b"from-rows" => from_rows(memory, words, out),
-        b"remember" => remember(memory, words, out),
-        b"note" => note(memory, words, out),
-        b"find" => find(memory, words, out),
-        b"forget" => forget(memory, words, out),
-        b"count" => show_number(memory.rows().len() as u64, out),
+        "from-rows" => from_rows(memory, words, out),
+        "remember" => remember(memory, words, out),
+        "note" => note(memory, words, out),
+        "find" => find(memory, words, out),
+        "forget" => forget(memory, words, out),
+        "count" => show_number(memory.rows().len() as u64, out),
         _ => Err(End::BadLine),
     }
 }

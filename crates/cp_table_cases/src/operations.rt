@@ -14,12 +14,12 @@ fn long_swap(words: &mut Words) -> Result<LongOp, End> {
 /// An operation on a long.
 pub fn long_op(words: &mut Words) -> Result<LongOp, End> {
     match words.word()? {
-        b"get" => Ok(LongOp::Get),
-        b"set" => Ok(LongOp::Set(words.value()?)),
-        b"getset" => Ok(LongOp::GetSet(words.value()?)),
-        b"add" => Ok(LongOp::Add(words.value()?)),
-        b"getadd" => Ok(LongOp::GetAdd(words.value()?)),
-        b"cas" => long_swap(words),
+        "get" => Ok(LongOp::Get),
+        "set" => Ok(LongOp::Set(words.value()?)),
+        "getset" => Ok(LongOp::GetSet(words.value()?)),
+        "add" => Ok(LongOp::Add(words.value()?)),
+        "getadd" => Ok(LongOp::GetAdd(words.value()?)),
+        "cas" => long_swap(words),
         _ => Err(End::BadLine),
     }
 }
@@ -34,11 +34,11 @@ fn ref_swap(words: &mut Words) -> Result<RefOp, End> {
 /// An operation on a reference.
 pub fn ref_op(words: &mut Words) -> Result<RefOp, End> {
     match words.word()? {
-        b"get" => Ok(RefOp::Get),
-        b"set" => Ok(RefOp::Set(words.reference()?)),
-        b"getset" => Ok(RefOp::GetSet(words.reference()?)),
-        b"cas" => ref_swap(words),
-        b"contains" => Ok(RefOp::Contains(words.reference()?)),
+        "get" => Ok(RefOp::Get),
+        "set" => Ok(RefOp::Set(words.reference()?)),
+        "getset" => Ok(RefOp::GetSet(words.reference()?)),
+        "cas" => ref_swap(words),
+        "contains" => Ok(RefOp::Contains(words.reference()?)),
         _ => Err(End::BadLine),
     }
 }
@@ -58,12 +58,12 @@ fn map_swap(words: &mut Words) -> Result<MapOp, End> {
 }
 
 /// An operation on a map that sets the value of a key.
-fn map_write(call: &[u8], words: &mut Words) -> Result<MapOp, End> {
+fn map_write(call: &str, words: &mut Words) -> Result<MapOp, End> {
     let (key, value) = pair(words)?;
     match call {
-        b"set" => Ok(MapOp::Set(key, value)),
-        b"put" => Ok(MapOp::Put(key, value)),
-        b"putifabsent" => Ok(MapOp::PutIfAbsent(key, value)),
+        "set" => Ok(MapOp::Set(key, value)),
+        "put" => Ok(MapOp::Put(key, value)),
+        "putifabsent" => Ok(MapOp::PutIfAbsent(key, value)),
         _ => Err(End::BadLine),
     }
 }
@@ -71,10 +71,10 @@ fn map_write(call: &[u8], words: &mut Words) -> Result<MapOp, End> {
 /// An operation on a map.
 pub fn map_op(words: &mut Words) -> Result<MapOp, End> {
     match words.word()? {
-        b"get" => Ok(MapOp::Get(words.bytes()?)),
-        b"remove" => Ok(MapOp::Remove(words.bytes()?)),
-        b"delete" => Ok(MapOp::Delete(words.bytes()?)),
-        b"cas" => map_swap(words),
+        "get" => Ok(MapOp::Get(words.bytes()?)),
+        "remove" => Ok(MapOp::Remove(words.bytes()?)),
+        "delete" => Ok(MapOp::Delete(words.bytes()?)),
+        "cas" => map_swap(words),
         call => map_write(call, words),
     }
 }
@@ -82,11 +82,11 @@ pub fn map_op(words: &mut Words) -> Result<MapOp, End> {
 /// An operation on a latch.
 pub fn latch_op(words: &mut Words) -> Result<LatchOp, End> {
     match words.word()? {
-        b"count" => Ok(LatchOp::Count),
-        b"round" => Ok(LatchOp::Round),
-        b"set" => Ok(LatchOp::Set(words.count()?)),
-        b"down" => Ok(LatchOp::Down(words.number()?)),
-        b"await" => Ok(LatchOp::Await(words.count()?)),
+        "count" => Ok(LatchOp::Count),
+        "round" => Ok(LatchOp::Round),
+        "set" => Ok(LatchOp::Set(words.count()?)),
+        "down" => Ok(LatchOp::Down(words.number()?)),
+        "await" => Ok(LatchOp::Await(words.count()?)),
         _ => Err(End::BadLine),
     }
 }
@@ -106,12 +106,12 @@ fn sem_take(words: &mut Words) -> Result<SemOp, End> {
 }
 
 /// An operation on a semaphore that names a session and permits.
-fn sem_change(call: &[u8], words: &mut Words) -> Result<SemOp, End> {
+fn sem_change(call: &str, words: &mut Words) -> Result<SemOp, End> {
     let (session, changed) = permits(words)?;
     match call {
-        b"release" => Ok(SemOp::Release(session, changed)),
-        b"increase" => Ok(SemOp::Increase(session, changed)),
-        b"reduce" => Ok(SemOp::Reduce(session, changed)),
+        "release" => Ok(SemOp::Release(session, changed)),
+        "increase" => Ok(SemOp::Increase(session, changed)),
+        "reduce" => Ok(SemOp::Reduce(session, changed)),
         _ => Err(End::BadLine),
     }
 }
@@ -119,10 +119,10 @@ fn sem_change(call: &[u8], words: &mut Words) -> Result<SemOp, End> {
 /// An operation on a semaphore.
 pub fn sem_op(words: &mut Words) -> Result<SemOp, End> {
     match words.word()? {
-        b"available" => Ok(SemOp::Available),
-        b"init" => Ok(SemOp::Init(words.count()?)),
-        b"acquire" => sem_take(words),
-        b"drain" => Ok(SemOp::Drain(words.number()?)),
+        "available" => Ok(SemOp::Available),
+        "init" => Ok(SemOp::Init(words.count()?)),
+        "acquire" => sem_take(words),
+        "drain" => Ok(SemOp::Drain(words.number()?)),
         call => sem_change(call, words),
     }
 }

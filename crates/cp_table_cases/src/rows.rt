@@ -84,12 +84,12 @@ fn get(rows: &Rows, words: &mut Words, out: &mut Vec<u8>) -> Result<(), End> {
 /// Makes the call that words spell, and shows its answer.
 pub fn answer(rows: &mut Rows, words: &mut Words, out: &mut Vec<u8>) -> Result<(), End> {
     match words.word()? {
-        b"rising" => rising(rows, words, out),
-        b"put" => put(rows, words, out),
-        b"push" => push(rows, words, out),
-        b"write" => write(rows, words, out),
-        b"get" => get(rows, words, out),
-        b"count" => show_number(rows.len() as u64, out),
+        "rising" => rising(rows, words, out),
+        "put" => put(rows, words, out),
+        "push" => push(rows, words, out),
+        "write" => write(rows, words, out),
+        "get" => get(rows, words, out),
+        "count" => show_number(rows.len() as u64, out),
         _ => Err(End::BadLine),
     }
 }

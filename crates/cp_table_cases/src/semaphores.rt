@@ -135,15 +135,15 @@ pub fn answer(
     out: &mut Vec<u8>,
 ) -> Result<(), End> {
     match words.word()? {
-        b"apply" => apply(semaphores, words, out),
-        b"available" => available(semaphores, words, out),
-        b"serve" => serve(semaphores, waits, words, out),
-        b"close-sessions" => close_sessions(semaphores, words, out),
-        b"destroy" => destroy(semaphores, words, out),
-        b"concerned" => show_concerned(semaphores, waits, words, out),
-        b"left-by" => show_left(semaphores, waits, words, out),
-        b"holdings" => show_holdings(semaphores, out),
-        b"count" => show_number(semaphores.rows().len() as u64, out),
+        "apply" => apply(semaphores, words, out),
+        "available" => available(semaphores, words, out),
+        "serve" => serve(semaphores, waits, words, out),
+        "close-sessions" => close_sessions(semaphores, words, out),
+        "destroy" => destroy(semaphores, words, out),
+        "concerned" => show_concerned(semaphores, waits, words, out),
+        "left-by" => show_left(semaphores, waits, words, out),
+        "holdings" => show_holdings(semaphores, out),
+        "count" => show_number(semaphores.rows().len() as u64, out),
         _ => Err(End::BadLine),
     }
 }

@@ -87,15 +87,15 @@ fn expire(sessions: &mut Sessions, words: &mut Words, out: &mut Vec<u8>) -> Resu
 /// Makes the call that words spell, and shows its answer.
 pub fn answer(sessions: &mut Sessions, words: &mut Words, out: &mut Vec<u8>) -> Result<(), End> {
     match words.word()? {
-        b"from-rows" => from_rows(sessions, words, out),
-        b"create" => create(sessions, words, out),
-        b"heartbeat" => show_found(sessions.heartbeat(words.number()?), out),
-        b"close" => show_flag(sessions.close(words.number()?), out),
-        b"close-all" => close_all(sessions, words, out),
-        b"expire" => expire(sessions, words, out),
-        b"is-open" => is_open(sessions, words, out),
-        b"version" => show_found(sessions.version(words.number()?), out),
-        b"count" => show_number(sessions.rows().len() as u64, out),
+        "from-rows" => from_rows(sessions, words, out),
+        "create" => create(sessions, words, out),
+        "heartbeat" => show_found(sessions.heartbeat(words.number()?), out),
+        "close" => show_flag(sessions.close(words.number()?), out),
+        "close-all" => close_all(sessions, words, out),
+        "expire" => expire(sessions, words, out),
+        "is-open" => is_open(sessions, words, out),
+        "version" => show_found(sessions.version(words.number()?), out),
+        "count" => show_number(sessions.rows().len() as u64, out),
         _ => Err(End::BadLine),
     }
 }

@@ -30,10 +30,10 @@ fn destroy_long(longs: &mut Longs, words: &mut Words, out: &mut Vec<u8>) -> Resu
 /// Makes the call on longs that words spell, and shows its answer.
 pub fn answer_long(longs: &mut Longs, words: &mut Words, out: &mut Vec<u8>) -> Result<(), End> {
     match words.word()? {
-        b"apply" => apply_long(longs, words, out),
-        b"value" => value_of_long(longs, words, out),
-        b"destroy" => destroy_long(longs, words, out),
-        b"count" => show_number(longs.rows().len() as u64, out),
+        "apply" => apply_long(longs, words, out),
+        "value" => value_of_long(longs, words, out),
+        "destroy" => destroy_long(longs, words, out),
+        "count" => show_number(longs.rows().len() as u64, out),
         _ => Err(End::BadLine),
     }
 }
@@ -72,10 +72,10 @@ fn value_of_ref(refs: &Refs, words: &mut Words, out: &mut Vec<u8>) -> Result<(),
 /// Makes the call on references that words spell, and shows its answer.
 pub fn answer_ref(refs: &mut Refs, words: &mut Words, out: &mut Vec<u8>) -> Result<(), End> {
     match words.word()? {
-        b"apply" => apply_ref(refs, words, out),
-        b"value" => value_of_ref(refs, words, out),
-        b"destroy" => destroy_ref(refs, words, out),
-        b"count" => show_number(refs.rows().len() as u64, out),
+        "apply" => apply_ref(refs, words, out),
+        "value" => value_of_ref(refs, words, out),
+        "destroy" => destroy_ref(refs, words, out),
+        "count" => show_number(refs.rows().len() as u64, out),
         _ => Err(End::BadLine),
     }
 }
@@ -107,10 +107,10 @@ fn value_in_map(maps: &Maps, words: &mut Words, out: &mut Vec<u8>) -> Result<(),
 /// Makes the call on maps that words spell, and shows its answer.
 pub fn answer_map(maps: &mut Maps, words: &mut Words, out: &mut Vec<u8>) -> Result<(), End> {
     match words.word()? {
-        b"apply" => apply_map(maps, words, out),
-        b"value" => value_in_map(maps, words, out),
-        b"destroy" => destroy_map(maps, words, out),
-        b"count" => show_number(maps.rows().len() as u64, out),
+        "apply" => apply_map(maps, words, out),
+        "value" => value_in_map(maps, words, out),
+        "destroy" => destroy_map(maps, words, out),
+        "count" => show_number(maps.rows().len() as u64, out),
         _ => Err(End::BadLine),
     }
 }

@@ -118,26 +118,21 @@ fn all(waits: &Waits, out: &mut Vec<u8>) -> Result<(), End> {
 }
 
 /// Makes the call that words spell and that changes nothing, and shows its answer.
-fn answer_read(
-    waits: &Waits,
-    call: &[u8],
-    words: &mut Words,
-    out: &mut Vec<u8>,
-) -> Result<(), End> {
+fn answer_read(waits: &Waits, call: &str, words: &mut Words, out: &mut Vec<u8>) -> Result<(), End> {
     match call {
-        b"len" => show_number(waits.len() as u64, out),
-        b"count" => show_number(waits.rows().len() as u64, out),
-        b"stands" => show_flag(waits.stands(&words.call()?), out),
-        b"waiter" => waiter(waits, words, out),
-        b"first" => first(waits, words, out),
-        b"served" => served(waits, words, out),
-        b"on-object" => on_object(waits, words, out),
-        b"of-call" => of_call(waits, words, out),
-        b"older" => older(waits, words, out),
-        b"of-sessions" => of_sessions(waits, words, out),
-        b"all" => all(waits, out),
-        b"limited-len" => show_number(waits.limited_len() as u64, out),
-        b"limited" => limited(waits, words, out),
+        "len" => show_number(waits.len() as u64, out),
+        "count" => show_number(waits.rows().len() as u64, out),
+        "stands" => show_flag(waits.stands(&words.call()?), out),
+        "waiter" => waiter(waits, words, out),
+        "first" => first(waits, words, out),
+        "served" => served(waits, words, out),
+        "on-object" => on_object(waits, words, out),
+        "of-call" => of_call(waits, words, out),
+        "older" => older(waits, words, out),
+        "of-sessions" => of_sessions(waits, words, out),
+        "all" => all(waits, out),
+        "limited-len" => show_number(waits.limited_len() as u64, out),
+        "limited" => limited(waits, words, out),
         _ => Err(End::BadLine),
     }
 }
@@ -145,10 +140,10 @@ fn answer_read(
 /// Makes the call that words spell, and shows its answer.
 pub fn answer(waits: &mut Waits, words: &mut Words, out: &mut Vec<u8>) -> Result<(), End> {
     match words.word()? {
-        b"from-rows" => from_rows(waits, words, out),
-        b"join" => join(waits, words, out),
-        b"leave" => leave(waits, words, out),
-        b"end-sessions" => end_sessions(waits, words, out),
+        "from-rows" => from_rows(waits, words, out),
+        "join" => join(waits, words, out),
+        "leave" => leave(waits, words, out),
+        "end-sessions" => end_sessions(waits, words, out),
         call => answer_read(waits, call, words, out),
     }
 }

@@ -1,16 +1,22 @@
 //! The words of a line, which one space parts, and what they spell.
 use crate::end::End;
-use cp_base::{
-    ClientId, Invocation, Items, Name, ThreadNo, read_decimal, read_hex, read_signed, split_at_byte,
-};
+use cp_base::{ClientId, Invocation, Items, Name, ThreadNo, read_decimal, read_hex, read_signed};
 use cp_group_state::{Holder, Waiter};
 use cp_ops::{Answer, Kind, Wish};
 use std::alloc::Global;
 use uuid::Uuid;
 
+/// The first word of a line, and what stands behind the space after it.
+pub fn split(line: &str) -> (&str, &str) {
+    match line.split_once(' ') {
+        Some(parts) => parts,
+        None => (line, ""),
+    }
+}
+
 /// The number that a word is.
-fn number_of(word: &[u8]) -> Result<u64, End> {
-    match read_decimal(word) {
+fn number_of(word: &str) -> Result<u64, End> {
+    match read_decimal(word.as_bytes()) {
         Some(number) => Ok(number),
         None => Err(End::BadLine),
     }
@@ -25,22 +31,22 @@ fn count_of(number: u64) -> Result<u32, End> {
 }
 
 /// The kind of an object that a word is.
-fn kind_of(word: &[u8]) -> Result<Kind, End> {
+fn kind_of(word: &str) -> Result<Kind, End> {
     match word {
-        b"long" => Ok(Kind::Long),
-        b"ref" => Ok(Kind::Ref),
-        b"lock" => Ok(Kind::Lock),
-        b"sem" => Ok(Kind::Sem),
-        b"jsem" => Ok(Kind::Jsem),
-        b"latch" => Ok(Kind::Latch),
-        b"map" => Ok(Kind::Map),
+        "long" => Ok(Kind::Long),
+        "ref" => Ok(Kind::Ref),
+        "lock" => Ok(Kind::Lock),
+        "sem" => Ok(Kind::Sem),
+        "jsem" => Ok(Kind::Jsem),
+        "latch" => Ok(Kind::Latch),
+        "map" => Ok(Kind::Map),
         _ => Err(End::BadLine),
     }
 }
 
 /// The bytes that a word spells: `x`, and two digits for each.
-fn bytes_of(alloc: Global, word: &[u8]) -> Result<Items<u8>, End> {
-    let [b'x', digits @ ..] = word else {
+fn bytes_of(alloc: Global, word: &str) -> Result<Items<u8>, End> {
+    let [b'x', digits @ ..] = word.as_bytes() else {
         return Err(End::BadLine);
     };
     match read_hex(alloc, digits)? {
@@ -53,12 +59,12 @@ fn bytes_of(alloc: Global, word: &[u8]) -> Result<Items<u8>, End> {
 #[derive(Drop)]
 pub struct Words<'a> {
     alloc: Global,
-    rest: &'a [u8],
+    rest: &'a str,
 }
 
 impl<'a> Words<'a> {
     /// The words of a line.
-    pub fn new(alloc: Global, line: &'a [u8]) -> Words<'a> {
+    pub fn new(alloc: Global, line: &'a str) -> Words<'a> {
         Words { alloc, rest: line }
     }
 
@@ -68,7 +74,7 @@ impl<'a> Words<'a> {
     }
 
     /// The words that were not read yet, as they stand.
-    pub fn rest(&self) -> &'a [u8] {
+    pub fn rest(&self) -> &'a str {
         self.rest
     }
 
@@ -78,21 +84,13 @@ impl<'a> Words<'a> {
     }
 
     /// The next word.
-    pub fn word(&mut self) -> Result<&'a [u8], End> {
-        let line = self.rest;
-        if line.is_empty() {
+    pub fn word(&mut self) -> Result<&'a str, End> {
+        if self.rest.is_empty() {
             return Err(End::BadLine);
         }
-        match split_at_byte(b' ', line) {
-            Some((word, rest)) => {
-                self.rest = rest;
-                Ok(word)
-            }
-            None => {
-                self.rest = &[];
-                Ok(line)
-            }
-        }
+        let (word, rest) = split(self.rest);
+        self.rest = rest;
+        Ok(word)
     }
 
     /// A number.
@@ -117,7 +115,8 @@ impl<'a> Words<'a> {
 
     /// A number of 64 bits with a sign.
     pub fn value(&mut self) -> Result<i64, End> {
-        match read_signed(self.word()?) {
+        let word = self.word()?;
+        match read_signed(word.as_bytes()) {
             Some(value) => Ok(value),
             None => Err(End::BadLine),
         }
@@ -136,8 +135,8 @@ impl<'a> Words<'a> {
     }
 
     /// The name that a word is.
-    pub fn name_of(&self, word: &[u8]) -> Result<Name, End> {
-        Ok(Name::read(self.alloc, word)?)
+    pub fn name_of(&self, word: &str) -> Result<Name, End> {
+        Ok(Name::read(self.alloc, word.as_bytes())?)
     }
 
     /// A name.
@@ -161,7 +160,7 @@ impl<'a> Words<'a> {
     /// Bytes, or `null`.
     pub fn reference(&mut self) -> Result<Option<Items<u8>>, End> {
         let word = self.word()?;
-        if word == b"null".as_slice() {
+        if word == "null" {
             return Ok(None);
         }
         Ok(Some(bytes_of(self.alloc, word)?))
@@ -199,7 +198,7 @@ impl<'a> Words<'a> {
     /// How long a call may wait: `none` for no limit, or milliseconds.
     pub fn wish(&mut self) -> Result<Wish, End> {
         let word = self.word()?;
-        if word == b"none".as_slice() {
+        if word == "none" {
             return Ok(Wish::NoLimit);
         }
         Ok(Wish::Within(count_of(number_of(word)?)?))
@@ -231,13 +230,13 @@ impl<'a> Words<'a> {
     }
 
     /// What a call was answered, of a few kinds, by the first word of it.
-    pub fn answer_from(&mut self, word: &[u8]) -> Result<Answer, End> {
+    pub fn answer_from(&mut self, word: &str) -> Result<Answer, End> {
         match word {
-            b"ok" => Ok(Answer::Ok),
-            b"true" => Ok(Answer::Bool(true)),
-            b"false" => Ok(Answer::Bool(false)),
-            b"timed-out" => Ok(Answer::TimedOut),
-            b"fence" => self.fence(),
+            "ok" => Ok(Answer::Ok),
+            "true" => Ok(Answer::Bool(true)),
+            "false" => Ok(Answer::Bool(false)),
+            "timed-out" => Ok(Answer::TimedOut),
+            "fence" => self.fence(),
             _ => Err(End::BadLine),
         }
     }
