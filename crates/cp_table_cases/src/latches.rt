@@ -5,27 +5,47 @@ use crate::shown::{show, show_answer, show_number};
 use crate::words::Words;
 use cp_latch::{LatchOutcome, Latches};
 
-fn apply(latches: &mut Latches, words: &mut Words, out: &mut Vec<u8>) -> Result<(), End> {
-    let name = words.name()?;
-    let call = words.call()?;
-    match latches.apply(&name, &call, &latch_op(words)?)? {
-        LatchOutcome::Done(answer) => show_answer(&answer, out),
+fn show_outcome(outcome: &LatchOutcome, out: &mut Vec<u8>) -> Result<(), End> {
+    match outcome {
+        LatchOutcome::Done(answer) => show_answer(answer, out),
         LatchOutcome::Wants => show(b"wants", out),
         LatchOutcome::Opened => show(b"opened", out),
     }
 }
 
+fn apply(latches: &mut Latches, words: &mut Words, out: &mut Vec<u8>) -> Result<(), End> {
+    let word = words.word()?;
+    let call = words.call()?;
+    let op = latch_op(words)?;
+    let name = words.name_of(word)?;
+    let outcome = latches.apply(&name, &call, &op)?;
+    show_outcome(&outcome, out)
+}
+
+fn count_of(latches: &Latches, words: &mut Words, out: &mut Vec<u8>) -> Result<(), End> {
+    let name = words.name()?;
+    show_number(u64::from(latches.count(&name)), out)
+}
+
+fn round_of(latches: &Latches, words: &mut Words, out: &mut Vec<u8>) -> Result<(), End> {
+    let name = words.name()?;
+    show_number(latches.round(&name), out)
+}
+
+fn destroy(latches: &mut Latches, words: &mut Words, out: &mut Vec<u8>) -> Result<(), End> {
+    let name = words.name()?;
+    latches.destroy(&name);
+    show(b"ok", out)
+}
+
 /// Makes the call that words spell, and shows its answer.
 pub fn answer(latches: &mut Latches, words: &mut Words, out: &mut Vec<u8>) -> Result<(), End> {
     match words.word()? {
-        b"apply" => apply(latches, words, out),
-        b"count-of" => show_number(u64::from(latches.count(&words.name()?)), out),
-        b"round-of" => show_number(latches.round(&words.name()?), out),
-        b"destroy" => {
-            latches.destroy(&words.name()?);
-            show(b"ok", out)
-        }
-        b"count" => show_number(latches.rows().len() as u64, out),
+        "apply" => apply(latches, words, out),
+        "count-of" => count_of(latches, words, out),
+        "round-of" => round_of(latches, words, out),
+        "destroy" => destroy(latches, words, out),
+        "count" => show_number(latches.rows().len() as u64, out),
         _ => Err(End::BadLine),
     }
 }

@@ -9,26 +9,36 @@ use cp_base::{Items, Name};
 use cp_group_state::{Holder, LockRow};
 use cp_lock::{LockError, Locks, Released, Taken};
 
-/// The rows that all words spell, each by name, session, thread, fence, holds.
+/// The row that the next words spell: name, session, thread, fence, holds.
+fn next_row(words: &mut Words) -> Result<(Name, LockRow), End> {
+    let word = words.word()?;
+    let holder = words.holder()?;
+    let fence = words.number()?;
+    let holds = words.count()?;
+    let name = words.name_of(word)?;
+    let row = LockRow {
+        holder,
+        fence,
+        holds,
+    };
+    Ok((name, row))
+}
+
+/// The rows that all words spell.
 fn rows(words: &mut Words) -> Result<Items<(Name, LockRow)>, End> {
     let mut rows = Items::new(words.alloc());
     for _ in 0..words.rest().len() {
         if words.is_done() {
             break;
         }
-        let name = words.name()?;
-        let row = LockRow {
-            holder: words.holder()?,
-            fence: words.number()?,
-            holds: words.count()?,
-        };
-        rows.push((name, row))?;
+        rows.push(next_row(words)?)?;
     }
     Ok(rows)
 }
 
 fn from_rows(locks: &mut Locks, words: &mut Words, out: &mut Vec<u8>) -> Result<(), End> {
-    match Locks::from_rows(words.alloc(), rows(words)?)? {
+    let rows = rows(words)?;
+    match Locks::from_rows(words.alloc(), rows)? {
         Some(made) => {
             *locks = made;
             show(b"ok", out)
@@ -39,9 +49,11 @@ fn from_rows(locks: &mut Locks, words: &mut Words, out: &mut Vec<u8>) -> Result<
 
 fn acquire(locks: &mut Locks, words: &mut Words, out: &mut Vec<u8>) -> Result<(), End> {
     let index = words.number()?;
-    let name = words.name()?;
+    let word = words.word()?;
     let who = words.holder()?;
-    match locks.acquire(index, &name, &who, words.count()?) {
+    let most = words.count()?;
+    let name = words.name_of(word)?;
+    match locks.acquire(index, &name, &who, most) {
         Ok(Taken::Fence(fence)) => show_numbered(b"fence", fence, out),
         Ok(Taken::Limit(most)) => show_numbered(b"limit", u64::from(most), out),
         Ok(Taken::Busy) => show(b"busy", out),
@@ -51,8 +63,10 @@ fn acquire(locks: &mut Locks, words: &mut Words, out: &mut Vec<u8>) -> Result<()
 }
 
 fn release(locks: &mut Locks, words: &mut Words, out: &mut Vec<u8>) -> Result<(), End> {
-    let name = words.name()?;
-    match locks.release(&name, &words.holder()?) {
+    let word = words.word()?;
+    let who = words.holder()?;
+    let name = words.name_of(word)?;
+    match locks.release(&name, &who) {
         Released::Freed => show(b"freed", out),
         Released::Kept => show(b"kept", out),
         Released::NotOwner => show(b"not-owner", out),
@@ -67,8 +81,9 @@ fn has_row(locks: &Locks, name: &Name) -> bool
 
 fn grant(locks: &mut Locks, words: &mut Words, out: &mut Vec<u8>) -> Result<(), End> {
     let index = words.number()?;
-    let name = words.name()?;
+    let word = words.word()?;
     let who = words.holder()?;
+    let name = words.name_of(word)?;
     if !has_row(locks, &name) {
         return show(b"no-row", out);
     }
@@ -94,23 +109,60 @@ fn show_owner(owner: Option<&Holder>, out: &mut Vec<u8>) -> Result<(), End> {
     }
 }
 
+fn close_session(locks: &mut Locks, words: &mut Words, out: &mut Vec<u8>) -> Result<(), End> {
+    let session = words.number()?;
+    let freed = locks.close_session(session)?;
+    show_names(&freed, out)
+}
+
+fn close_sessions(locks: &mut Locks, words: &mut Words, out: &mut Vec<u8>) -> Result<(), End> {
+    let sessions = words.numbers()?;
+    let freed = locks.close_sessions(&sessions)?;
+    show_names(&freed, out)
+}
+
+fn destroy(locks: &mut Locks, words: &mut Words, out: &mut Vec<u8>) -> Result<(), End> {
+    let name = words.name()?;
+    locks.destroy(&name);
+    show(b"ok", out)
+}
+
+fn row(locks: &Locks, words: &mut Words, out: &mut Vec<u8>) -> Result<(), End> {
+    let name = words.name()?;
+    show_row(&locks.row(&name), out)
+}
+
+fn owner(locks: &Locks, words: &mut Words, out: &mut Vec<u8>) -> Result<(), End> {
+    let name = words.name()?;
+    show_owner(locks.owner(&name), out)
+}
+
+fn fence(locks: &Locks, words: &mut Words, out: &mut Vec<u8>) -> Result<(), End> {
+    let name = words.name()?;
+    show_number(locks.fence(&name), out)
+}
+
+/// Makes the call that words spell and that changes nothing, and shows its answer.
+fn answer_read(locks: &Locks, call: &str, words: &mut Words, out: &mut Vec<u8>) -> Result<(), End> {
+    match call {
+        "row" => row(locks, words, out),
+        "owner" => owner(locks, words, out),
+        "fence" => fence(locks, words, out),
+        "count" => show_number(locks.rows().len() as u64, out),
+        _ => Err(End::BadLine),
+    }
+}
+
 /// Makes the call that words spell, and shows its answer.
 pub fn answer(locks: &mut Locks, words: &mut Words, out: &mut Vec<u8>) -> Result<(), End> {
     match words.word()? {
-        b"from-rows" => from_rows(locks, words, out),
-        b"acquire" => acquire(locks, words, out),
-        b"release" => release(locks, words, out),
-        b"grant" => grant(locks, words, out),
-        b"close-session" => show_names(&locks.close_session(words.number()?)?, out),
-        b"close-sessions" => show_names(&locks.close_sessions(&words.numbers()?)?, out),
-        b"row" => show_row(&locks.row(&words.name()?), out),
-        b"owner" => show_owner(locks.owner(&words.name()?), out),
-        b"fence" => show_number(locks.fence(&words.name()?), out),
-        b"destroy" => {
-            locks.destroy(&words.name()?);
-            show(b"ok", out)
-        }
-        b"count" => show_number(locks.rows().len() as u64, out),
-        _ => Err(End::BadLine),
+        "from-rows" => from_rows(locks, words, out),
+        "acquire" => acquire(locks, words, out),
+        "release" => release(locks, words, out),
+        "grant" => grant(locks, words, out),
+        "close-session" => close_session(locks, words, out),
+        "close-sessions" => close_sessions(locks, words, out),
+        "destroy" => destroy(locks, words, out),
+        call => answer_read(locks, call, words, out),
     }
 }

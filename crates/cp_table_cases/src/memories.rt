@@ -3,39 +3,43 @@ use crate::end::End;
 use crate::shown::{show, show_answer, show_number};
 use crate::words::Words;
 use cp_base::Items;
-use cp_group_state::MemoryRow;
+use cp_group_state::{MemoryRow, Waiter};
 use cp_ops::Answer;
 use cp_remembered::Memory;
 
 /// What the next words say of a call: `waits`, or its answer.
 fn state(words: &mut Words) -> Result<Option<Answer>, End> {
-    let mut ahead = Words::new(words.alloc(), words.rest());
-    if ahead.word()? == b"waits".as_slice() {
-        *words = ahead;
+    let word = words.word()?;
+    if word == "waits" {
         return Ok(None);
     }
-    Ok(Some(words.answer()?))
+    Ok(Some(words.answer_from(word)?))
 }
 
-/// The rows that all words spell, each by session, thread, number, and `waits` or the answer.
+/// The row that the next words spell: session, thread, number, and `waits` or the answer.
+fn next_row(words: &mut Words) -> Result<((u64, u8), MemoryRow), End> {
+    let session = words.number()?;
+    let thread = words.byte()?;
+    let number = words.number()?;
+    let answer = state(words)?;
+    Ok(((session, thread), MemoryRow { number, answer }))
+}
+
+/// The rows that all words spell.
 fn rows(words: &mut Words) -> Result<Items<((u64, u8), MemoryRow)>, End> {
     let mut rows = Items::new(words.alloc());
     for _ in 0..words.rest().len() {
         if words.is_done() {
             break;
         }
-        let key = (words.number()?, words.byte()?);
-        let row = MemoryRow {
-            number: words.number()?,
-            answer: state(words)?,
-        };
-        rows.push((key, row))?;
+        rows.push(next_row(words)?)?;
     }
     Ok(rows)
 }
 
 fn from_rows(memory: &mut Memory, words: &mut Words, out: &mut Vec<u8>) -> Result<(), End> {
-    match Memory::from_rows(words.alloc(), rows(words)?)? {
+    let rows = rows(words)?;
+    match Memory::from_rows(words.alloc(), rows)? {
         Some(made) => {
             *memory = made;
             show(b"ok", out)
@@ -47,14 +51,26 @@ fn from_rows(memory: &mut Memory, words: &mut Words, out: &mut Vec<u8>) -> Resul
 fn remember(memory: &mut Memory, words: &mut Words, out: &mut Vec<u8>) -> Result<(), End> {
     let who = words.holder()?;
     let number = words.number()?;
-    memory.remember(who.session, who.thread, number, state(words)?)?;
+    let answer = state(words)?;
+    memory.remember(who.session, who.thread, number, answer)?;
+    show(b"ok", out)
+}
+
+/// Notes the answer that the next words spell, for a waiter.
+fn note_answer(
+    memory: &mut Memory,
+    waiter: &Waiter,
+    words: &mut Words,
+    out: &mut Vec<u8>,
+) -> Result<(), End> {
+    let answer = words.answer()?;
+    memory.note(waiter, answer);
     show(b"ok", out)
 }
 
 fn note(memory: &mut Memory, words: &mut Words, out: &mut Vec<u8>) -> Result<(), End> {
     let waiter = words.waiter()?;
-    memory.note(&waiter, words.answer()?);
-    show(b"ok", out)
+    note_answer(memory, &waiter, words, out)
 }
 
 fn show_row(row: &MemoryRow, out: &mut Vec<u8>) -> Result<(), End> {
@@ -73,18 +89,21 @@ fn find(memory: &Memory, words: &mut Words, out: &mut Vec<u8>) -> Result<(), End
     }
 }
 
+fn forget(memory: &mut Memory, words: &mut Words, out: &mut Vec<u8>) -> Result<(), End> {
+    let sessions = words.numbers()?;
+    memory.forget(&sessions);
+    show(b"ok", out)
+}
+
 /// Makes the call that words spell, and shows its answer.
 pub fn answer(memory: &mut Memory, words: &mut Words, out: &mut Vec<u8>) -> Result<(), End> {
     match words.word()? {
-        b"from-rows" => from_rows(memory, words, out),
-        b"remember" => remember(memory, words, out),
-        b"note" => note(memory, words, out),
-        b"find" => find(memory, words, out),
-        b"forget" => {
-            memory.forget(&words.numbers()?);
-            show(b"ok", out)
-        }
-        b"count" => show_number(memory.rows().len() as u64, out),
+        "from-rows" => from_rows(memory, words, out),
+        "remember" => remember(memory, words, out),
+        "note" => note(memory, words, out),
+        "find" => find(memory, words, out),
+        "forget" => forget(memory, words, out),
+        "count" => show_number(memory.rows().len() as u64, out),
         _ => Err(End::BadLine),
     }
 }

@@ -13,14 +13,27 @@ use std::collections::BTreeMap;
 /// Rows under numbers.
 pub type Rows = BTreeMap<u64, u8>;
 
-fn rising(rows: &mut Rows, words: &mut Words, out: &mut Vec<u8>) -> Result<(), End> {
+/// The row that the next words spell, by its key.
+fn pair(words: &mut Words) -> Result<(u64, u8), End> {
+    let key = words.number()?;
+    let row = words.byte()?;
+    Ok((key, row))
+}
+
+/// The rows that all words spell.
+fn pairs(words: &mut Words) -> Result<Items<(u64, u8)>, End> {
     let mut pairs = Items::new(words.alloc());
     for _ in 0..words.rest().len() {
         if words.is_done() {
             break;
         }
-        pairs.push((words.number()?, words.byte()?))?;
+        pairs.push(pair(words)?)?;
     }
+    Ok(pairs)
+}
+
+fn rising(rows: &mut Rows, words: &mut Words, out: &mut Vec<u8>) -> Result<(), End> {
+    let pairs = pairs(words)?;
     match rising_rows(words.alloc(), pairs)? {
         Some(made) => {
             *rows = made;
@@ -31,12 +44,14 @@ fn rising(rows: &mut Rows, words: &mut Words, out: &mut Vec<u8>) -> Result<(), E
 }
 
 fn put(rows: &mut Rows, words: &mut Words, out: &mut Vec<u8>) -> Result<(), End> {
-    put_row(rows, words.number()?, words.byte()?)?;
+    let (key, row) = pair(words)?;
+    put_row(rows, key, row)?;
     show(b"ok", out)
 }
 
 fn push(rows: &mut Rows, words: &mut Words, out: &mut Vec<u8>) -> Result<(), End> {
-    match push_row(rows, words.number()?, words.byte()?) {
+    let (key, row) = pair(words)?;
+    match push_row(rows, key, row) {
         Ok(()) => show(b"ok", out),
         Err(PushError::OutOfOrder) => show(b"out-of-order", out),
         Err(PushError::NoMemory) => Err(End::NoMemory),
@@ -50,8 +65,7 @@ fn has(rows: &BTreeMap<u64, u8>, key: u64) -> bool
 }
 
 fn write(rows: &mut Rows, words: &mut Words, out: &mut Vec<u8>) -> Result<(), End> {
-    let key = words.number()?;
-    let row = words.byte()?;
+    let (key, row) = pair(words)?;
     if !has(rows, key) {
         return show(b"none", out);
     }
@@ -60,7 +74,8 @@ fn write(rows: &mut Rows, words: &mut Words, out: &mut Vec<u8>) -> Result<(), En
 }
 
 fn get(rows: &Rows, words: &mut Words, out: &mut Vec<u8>) -> Result<(), End> {
-    match rows.get(&words.number()?) {
+    let key = words.number()?;
+    match rows.get(&key) {
         Some(row) => show_number(u64::from(*row), out),
         None => show(b"none", out),
     }
@@ -69,12 +84,12 @@ fn get(rows: &Rows, words: &mut Words, out: &mut Vec<u8>) -> Result<(), End> {
 /// Makes the call that words spell, and shows its answer.
 pub fn answer(rows: &mut Rows, words: &mut Words, out: &mut Vec<u8>) -> Result<(), End> {
     match words.word()? {
-        b"rising" => rising(rows, words, out),
-        b"put" => put(rows, words, out),
-        b"push" => push(rows, words, out),
-        b"write" => write(rows, words, out),
-        b"get" => get(rows, words, out),
-        b"count" => show_number(rows.len() as u64, out),
+        "rising" => rising(rows, words, out),
+        "put" => put(rows, words, out),
+        "push" => push(rows, words, out),
+        "write" => write(rows, words, out),
+        "get" => get(rows, words, out),
+        "count" => show_number(rows.len() as u64, out),
         _ => Err(End::BadLine),
     }
 }

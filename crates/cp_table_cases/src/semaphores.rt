@@ -5,29 +5,56 @@ use crate::shown::{
     show, show_answer, show_number, show_numbered, show_objects, show_value, show_waiters,
 };
 use crate::words::Words;
+use cp_base::Name;
+use cp_ops::{Answer, Kind};
 use cp_semaphore::{SemOutcome, Semaphores, concerned, left_by};
 use cp_wait::Waits;
 
+fn show_served(answer: &Answer, available: i64, out: &mut Vec<u8>) -> Result<(), End> {
+    show_answer(answer, out)?;
+    show(b"available", out)?;
+    show_value(available, out)
+}
+
+fn show_outcome(outcome: &SemOutcome, out: &mut Vec<u8>) -> Result<(), End> {
+    match outcome {
+        SemOutcome::Done(answer) => show_answer(answer, out),
+        SemOutcome::Wants => show(b"wants", out),
+        SemOutcome::Served(answer, available) => show_served(answer, *available, out),
+    }
+}
+
 fn apply(semaphores: &mut Semaphores, words: &mut Words, out: &mut Vec<u8>) -> Result<(), End> {
     let kind = words.kind()?;
-    let name = words.name()?;
-    match semaphores.apply(kind, &name, &sem_op(words)?)? {
-        SemOutcome::Done(answer) => show_answer(&answer, out),
-        SemOutcome::Wants => show(b"wants", out),
-        SemOutcome::Served(answer, available) => {
-            show_answer(&answer, out)?;
-            show(b"available", out)?;
-            show_value(available, out)
-        }
-    }
+    let word = words.word()?;
+    let op = sem_op(words)?;
+    let name = words.name_of(word)?;
+    let outcome = semaphores.apply(kind, &name, &op)?;
+    show_outcome(&outcome, out)
 }
 
 fn available(semaphores: &Semaphores, words: &mut Words, out: &mut Vec<u8>) -> Result<(), End> {
     let kind = words.kind()?;
-    match semaphores.available(kind, &words.name()?)? {
+    let name = words.name()?;
+    match semaphores.available(kind, &name)? {
         Some(available) => show_value(available, out),
         None => show(b"none", out),
     }
+}
+
+/// The waiters on an object that so many permits serve take them, and wait no more.
+fn serve_each(
+    semaphores: &mut Semaphores,
+    waits: &mut Waits,
+    object: (Kind, &Name),
+    available: i64,
+    out: &mut Vec<u8>,
+) -> Result<(), End> {
+    let (kind, name) = object;
+    let served = waits.served(kind, name, available)?;
+    semaphores.take_each(kind, name, served.as_slice())?;
+    waits.end(served.as_slice());
+    show_waiters(served.as_slice(), out)
 }
 
 /// The waiters that what stands available serves take their permits, and wait no more.
@@ -39,18 +66,16 @@ fn serve(
 ) -> Result<(), End> {
     let kind = words.kind()?;
     let name = words.name()?;
-    let Some(available) = semaphores.available(kind, &name)? else {
-        return show(b"none", out);
-    };
-    let served = waits.served(kind, &name, available)?;
-    semaphores.take_each(kind, &name, served.as_slice())?;
-    waits.end(served.as_slice());
-    show_waiters(served.as_slice(), out)
+    match semaphores.available(kind, &name)? {
+        Some(available) => serve_each(semaphores, waits, (kind, &name), available, out),
+        None => show(b"none", out),
+    }
 }
 
 fn destroy(semaphores: &mut Semaphores, words: &mut Words, out: &mut Vec<u8>) -> Result<(), End> {
     let kind = words.kind()?;
-    semaphores.destroy(kind, &words.name()?)?;
+    let name = words.name()?;
+    semaphores.destroy(kind, &name)?;
     show(b"ok", out)
 }
 
@@ -86,9 +111,20 @@ fn show_left(
     words: &mut Words,
     out: &mut Vec<u8>,
 ) -> Result<(), End> {
-    let ended = waits.of_sessions(&words.numbers()?)?;
+    let sessions = words.numbers()?;
+    let ended = waits.of_sessions(&sessions)?;
     let found = left_by(words.alloc(), semaphores, ended.as_slice())?;
     show_objects(found.as_slice(), out)
+}
+
+fn close_sessions(
+    semaphores: &mut Semaphores,
+    words: &mut Words,
+    out: &mut Vec<u8>,
+) -> Result<(), End> {
+    let sessions = words.numbers()?;
+    semaphores.close_sessions(&sessions);
+    show(b"ok", out)
 }
 
 /// Makes the call that words spell, and shows its answer.
@@ -99,18 +135,15 @@ pub fn answer(
     out: &mut Vec<u8>,
 ) -> Result<(), End> {
     match words.word()? {
-        b"apply" => apply(semaphores, words, out),
-        b"available" => available(semaphores, words, out),
-        b"serve" => serve(semaphores, waits, words, out),
-        b"close-sessions" => {
-            semaphores.close_sessions(&words.numbers()?);
-            show(b"ok", out)
-        }
-        b"destroy" => destroy(semaphores, words, out),
-        b"concerned" => show_concerned(semaphores, waits, words, out),
-        b"left-by" => show_left(semaphores, waits, words, out),
-        b"holdings" => show_holdings(semaphores, out),
-        b"count" => show_number(semaphores.rows().len() as u64, out),
+        "apply" => apply(semaphores, words, out),
+        "available" => available(semaphores, words, out),
+        "serve" => serve(semaphores, waits, words, out),
+        "close-sessions" => close_sessions(semaphores, words, out),
+        "destroy" => destroy(semaphores, words, out),
+        "concerned" => show_concerned(semaphores, waits, words, out),
+        "left-by" => show_left(semaphores, waits, words, out),
+        "holdings" => show_holdings(semaphores, out),
+        "count" => show_number(semaphores.rows().len() as u64, out),
         _ => Err(End::BadLine),
     }
 }

@@ -6,25 +6,29 @@ use cp_base::Items;
 use cp_group_state::SessionRow;
 use cp_session::{SessionError, Sessions};
 
-/// The rows that all words spell, each by session, client, version.
+/// The row that the next words spell: session, client, version.
+fn next_row(words: &mut Words) -> Result<(u64, SessionRow), End> {
+    let session = words.number()?;
+    let client = words.client()?;
+    let version = words.number()?;
+    Ok((session, SessionRow { client, version }))
+}
+
+/// The rows that all words spell.
 fn rows(words: &mut Words) -> Result<Items<(u64, SessionRow)>, End> {
     let mut rows = Items::new(words.alloc());
     for _ in 0..words.rest().len() {
         if words.is_done() {
             break;
         }
-        let session = words.number()?;
-        let row = SessionRow {
-            client: words.client()?,
-            version: words.number()?,
-        };
-        rows.push((session, row))?;
+        rows.push(next_row(words)?)?;
     }
     Ok(rows)
 }
 
 fn from_rows(sessions: &mut Sessions, words: &mut Words, out: &mut Vec<u8>) -> Result<(), End> {
-    match Sessions::from_rows(words.alloc(), rows(words)?)? {
+    let rows = rows(words)?;
+    match Sessions::from_rows(words.alloc(), rows)? {
         Some(made) => {
             *sessions = made;
             show(b"ok", out)
@@ -35,45 +39,63 @@ fn from_rows(sessions: &mut Sessions, words: &mut Words, out: &mut Vec<u8>) -> R
 
 fn create(sessions: &mut Sessions, words: &mut Words, out: &mut Vec<u8>) -> Result<(), End> {
     let index = words.number()?;
-    match sessions.create(index, &words.client()?) {
+    let client = words.client()?;
+    match sessions.create(index, &client) {
         Ok(session) => show_number(session, out),
         Err(SessionError::TableFull(most)) => show_numbered(b"full", u64::from(most), out),
         Err(SessionError::NoMemory) => Err(End::NoMemory),
     }
 }
 
-/// The pairs that all words spell, each by session and version.
+/// The pair that the next words spell: session and version.
+fn pair(words: &mut Words) -> Result<(u64, u64), End> {
+    let session = words.number()?;
+    let version = words.number()?;
+    Ok((session, version))
+}
+
+/// The pairs that all words spell.
 fn pairs(words: &mut Words) -> Result<Vec<(u64, u64)>, End> {
     let mut pairs = Vec::new(words.alloc());
     for _ in 0..words.rest().len() {
         if words.is_done() {
             break;
         }
-        pairs.push((words.number()?, words.number()?))?;
+        pairs.push(pair(words)?)?;
     }
     Ok(pairs)
 }
 
 fn is_open(sessions: &Sessions, words: &mut Words, out: &mut Vec<u8>) -> Result<(), End> {
     let session = words.number()?;
-    show_flag(sessions.is_open(session, &words.client()?), out)
+    let client = words.client()?;
+    show_flag(sessions.is_open(session, &client), out)
+}
+
+fn close_all(sessions: &mut Sessions, words: &mut Words, out: &mut Vec<u8>) -> Result<(), End> {
+    let closed = words.numbers()?;
+    sessions.close_all(&closed);
+    show(b"ok", out)
+}
+
+fn expire(sessions: &mut Sessions, words: &mut Words, out: &mut Vec<u8>) -> Result<(), End> {
+    let seen = pairs(words)?;
+    let expired = sessions.expire(&seen)?;
+    show_numbers(&expired, out)
 }
 
 /// Makes the call that words spell, and shows its answer.
 pub fn answer(sessions: &mut Sessions, words: &mut Words, out: &mut Vec<u8>) -> Result<(), End> {
     match words.word()? {
-        b"from-rows" => from_rows(sessions, words, out),
-        b"create" => create(sessions, words, out),
-        b"heartbeat" => show_found(sessions.heartbeat(words.number()?), out),
-        b"close" => show_flag(sessions.close(words.number()?), out),
-        b"close-all" => {
-            sessions.close_all(&words.numbers()?);
-            show(b"ok", out)
-        }
-        b"expire" => show_numbers(&sessions.expire(&pairs(words)?)?, out),
-        b"is-open" => is_open(sessions, words, out),
-        b"version" => show_found(sessions.version(words.number()?), out),
-        b"count" => show_number(sessions.rows().len() as u64, out),
+        "from-rows" => from_rows(sessions, words, out),
+        "create" => create(sessions, words, out),
+        "heartbeat" => show_found(sessions.heartbeat(words.number()?), out),
+        "close" => show_flag(sessions.close(words.number()?), out),
+        "close-all" => close_all(sessions, words, out),
+        "expire" => expire(sessions, words, out),
+        "is-open" => is_open(sessions, words, out),
+        "version" => show_found(sessions.version(words.number()?), out),
+        "count" => show_number(sessions.rows().len() as u64, out),
         _ => Err(End::BadLine),
     }
 }

@@ -1,23 +1,70 @@
 //! The words of a line, which one space parts, and what they spell.
 use crate::end::End;
-use cp_base::{
-    ClientId, Invocation, Items, Name, ThreadNo, read_decimal, read_hex, read_signed, split_at_byte,
-};
+use cp_base::{ClientId, Invocation, Items, Name, ThreadNo, read_decimal, read_hex, read_signed};
 use cp_group_state::{Holder, Waiter};
 use cp_ops::{Answer, Kind, Wish};
 use std::alloc::Global;
 use uuid::Uuid;
 
+/// The first word of a line, and what stands behind the space after it.
+pub fn split(line: &str) -> (&str, &str) {
+    match line.split_once(' ') {
+        Some(parts) => parts,
+        None => (line, ""),
+    }
+}
+
+/// The number that a word is.
+fn number_of(word: &str) -> Result<u64, End> {
+    match read_decimal(word.as_bytes()) {
+        Some(number) => Ok(number),
+        None => Err(End::BadLine),
+    }
+}
+
+/// A number of 32 bits.
+fn count_of(number: u64) -> Result<u32, End> {
+    match u32::try_from(number) {
+        Ok(count) => Ok(count),
+        Err(_) => Err(End::BadLine),
+    }
+}
+
+/// The kind of an object that a word is.
+fn kind_of(word: &str) -> Result<Kind, End> {
+    match word {
+        "long" => Ok(Kind::Long),
+        "ref" => Ok(Kind::Ref),
+        "lock" => Ok(Kind::Lock),
+        "sem" => Ok(Kind::Sem),
+        "jsem" => Ok(Kind::Jsem),
+        "latch" => Ok(Kind::Latch),
+        "map" => Ok(Kind::Map),
+        _ => Err(End::BadLine),
+    }
+}
+
+/// The bytes that a word spells: `x`, and two digits for each.
+fn bytes_of(alloc: Global, word: &str) -> Result<Items<u8>, End> {
+    let [b'x', digits @ ..] = word.as_bytes() else {
+        return Err(End::BadLine);
+    };
+    match read_hex(alloc, digits)? {
+        Some(bytes) => Ok(Items::from_vec(bytes)),
+        None => Err(End::BadLine),
+    }
+}
+
 /// The words of a line that were not read yet.
 #[derive(Drop)]
 pub struct Words<'a> {
     alloc: Global,
-    rest: &'a [u8],
+    rest: &'a str,
 }
 
 impl<'a> Words<'a> {
     /// The words of a line.
-    pub fn new(alloc: Global, line: &'a [u8]) -> Words<'a> {
+    pub fn new(alloc: Global, line: &'a str) -> Words<'a> {
         Words { alloc, rest: line }
     }
 
@@ -27,7 +74,7 @@ impl<'a> Words<'a> {
     }
 
     /// The words that were not read yet, as they stand.
-    pub fn rest(&self) -> &'a [u8] {
+    pub fn rest(&self) -> &'a str {
         self.rest
     }
 
@@ -37,37 +84,25 @@ impl<'a> Words<'a> {
     }
 
     /// The next word.
-    pub fn word(&mut self) -> Result<&'a [u8], End> {
-        let line = self.rest;
-        if line.is_empty() {
+    pub fn word(&mut self) -> Result<&'a str, End> {
+        if self.rest.is_empty() {
             return Err(End::BadLine);
         }
-        match split_at_byte(b' ', line) {
-            Some((word, rest)) => {
-                self.rest = rest;
-                Ok(word)
-            }
-            None => {
-                self.rest = &[];
-                Ok(line)
-            }
-        }
+        let (word, rest) = split(self.rest);
+        self.rest = rest;
+        Ok(word)
     }
 
     /// A number.
     pub fn number(&mut self) -> Result<u64, End> {
-        match read_decimal(self.word()?) {
-            Some(number) => Ok(number),
-            None => Err(End::BadLine),
-        }
+        let word = self.word()?;
+        number_of(word)
     }
 
     /// A number of 32 bits.
     pub fn count(&mut self) -> Result<u32, End> {
-        match u32::try_from(self.number()?) {
-            Ok(count) => Ok(count),
-            Err(_) => Err(End::BadLine),
-        }
+        let number = self.number()?;
+        count_of(number)
     }
 
     /// A number of 8 bits.
@@ -80,7 +115,8 @@ impl<'a> Words<'a> {
 
     /// A number of 64 bits with a sign.
     pub fn value(&mut self) -> Result<i64, End> {
-        match read_signed(self.word()?) {
+        let word = self.word()?;
+        match read_signed(word.as_bytes()) {
             Some(value) => Ok(value),
             None => Err(End::BadLine),
         }
@@ -98,43 +134,36 @@ impl<'a> Words<'a> {
         Ok(numbers)
     }
 
+    /// The name that a word is.
+    pub fn name_of(&self, word: &str) -> Result<Name, End> {
+        Ok(Name::read(self.alloc, word.as_bytes())?)
+    }
+
     /// A name.
     pub fn name(&mut self) -> Result<Name, End> {
-        Ok(Name::read(self.alloc, self.word()?)?)
+        let word = self.word()?;
+        self.name_of(word)
     }
 
     /// The kind of an object.
     pub fn kind(&mut self) -> Result<Kind, End> {
-        match self.word()? {
-            b"long" => Ok(Kind::Long),
-            b"ref" => Ok(Kind::Ref),
-            b"lock" => Ok(Kind::Lock),
-            b"sem" => Ok(Kind::Sem),
-            b"jsem" => Ok(Kind::Jsem),
-            b"latch" => Ok(Kind::Latch),
-            b"map" => Ok(Kind::Map),
-            _ => Err(End::BadLine),
-        }
+        let word = self.word()?;
+        kind_of(word)
     }
 
     /// Bytes: `x`, and two digits for each.
     pub fn bytes(&mut self) -> Result<Items<u8>, End> {
-        match self.reference()? {
-            Some(bytes) => Ok(bytes),
-            None => Err(End::BadLine),
-        }
+        let word = self.word()?;
+        bytes_of(self.alloc, word)
     }
 
     /// Bytes, or `null`.
     pub fn reference(&mut self) -> Result<Option<Items<u8>>, End> {
-        match self.word()? {
-            b"null" => Ok(None),
-            [b'x', digits @ ..] => match read_hex(self.alloc, digits)? {
-                Some(bytes) => Ok(Some(Items::from_vec(bytes))),
-                None => Err(End::BadLine),
-            },
-            _ => Err(End::BadLine),
+        let word = self.word()?;
+        if word == "null" {
+            return Ok(None);
         }
+        Ok(Some(bytes_of(self.alloc, word)?))
     }
 
     /// The identifier of a client, by its number.
@@ -149,54 +178,72 @@ impl<'a> Words<'a> {
 
     /// A call: client, thread, number.
     pub fn call(&mut self) -> Result<Invocation, End> {
+        let client = self.client()?;
+        let thread = self.thread()?;
+        let number = self.number()?;
         Ok(Invocation {
-            client: self.client()?,
-            thread: self.thread()?,
-            number: self.number()?,
+            client,
+            thread,
+            number,
         })
     }
 
     /// A thread of a session.
     pub fn holder(&mut self) -> Result<Holder, End> {
-        Ok(Holder {
-            session: self.number()?,
-            thread: self.thread()?,
-        })
+        let session = self.number()?;
+        let thread = self.thread()?;
+        Ok(Holder { session, thread })
     }
 
     /// How long a call may wait: `none` for no limit, or milliseconds.
     pub fn wish(&mut self) -> Result<Wish, End> {
         let word = self.word()?;
-        if word == b"none".as_slice() {
+        if word == "none" {
             return Ok(Wish::NoLimit);
         }
-        match Words::new(self.alloc, word).count() {
-            Ok(limit) => Ok(Wish::Within(limit)),
-            Err(end) => Err(end),
-        }
+        Ok(Wish::Within(count_of(number_of(word)?)?))
     }
 
     /// A waiter: call, kind, name, session, permits, wish.
     pub fn waiter(&mut self) -> Result<Waiter, End> {
+        let call = self.call()?;
+        let kind = self.kind()?;
+        let word = self.word()?;
+        let session = self.number()?;
+        let permits = self.count()?;
+        let wish = self.wish()?;
+        let name = self.name_of(word)?;
         Ok(Waiter {
-            call: self.call()?,
-            kind: self.kind()?,
-            name: self.name()?,
-            session: self.number()?,
-            permits: self.count()?,
-            wish: self.wish()?,
+            call,
+            kind,
+            name,
+            session,
+            permits,
+            wish,
         })
+    }
+
+    /// The fencing token of an answer.
+    fn fence(&mut self) -> Result<Answer, End> {
+        let token = self.number()?;
+        Ok(Answer::Fence(token))
+    }
+
+    /// What a call was answered, of a few kinds, by the first word of it.
+    pub fn answer_from(&mut self, word: &str) -> Result<Answer, End> {
+        match word {
+            "ok" => Ok(Answer::Ok),
+            "true" => Ok(Answer::Bool(true)),
+            "false" => Ok(Answer::Bool(false)),
+            "timed-out" => Ok(Answer::TimedOut),
+            "fence" => self.fence(),
+            _ => Err(End::BadLine),
+        }
     }
 
     /// What a call was answered, of a few kinds.
     pub fn answer(&mut self) -> Result<Answer, End> {
-        match self.word()? {
-            b"ok" => Ok(Answer::Ok),
-            b"true" => Ok(Answer::Bool(true)),
-            b"false" => Ok(Answer::Bool(false)),
-            b"timed-out" => Ok(Answer::TimedOut),
-            b"fence" => Ok(Answer::Fence(self.number()?)),
-            _ => Err(End::BadLine),
-        }
+        let word = self.word()?;
+        self.answer_from(word)
     }
 }
