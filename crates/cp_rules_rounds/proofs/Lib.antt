@@ -1,0 +1,15 @@
+pub mod Whole
+pub mod Lead
+pub mod Quiet
+pub mod Messages
+pub mod Following
+pub mod Ticks
+pub mod Steps
+pub mod Waiting
+pub mod Known
+pub mod Said
+pub mod Fresh
+pub mod Between
+pub mod Leading
+pub mod Answers
+pub mod Examples
