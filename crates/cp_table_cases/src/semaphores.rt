@@ -9,6 +9,7 @@ use cp_base::Name;
 use cp_ops::{Answer, Kind};
 use cp_semaphore::{SemOutcome, Semaphores, concerned, left_by};
 use cp_wait::Waits;
+use std::collections::BTreeMap;
 
 fn show_served(answer: &Answer, available: i64, out: &mut Vec<u8>) -> Result<(), End> {
     show_answer(answer, out)?;
@@ -79,14 +80,20 @@ fn destroy(semaphores: &mut Semaphores, words: &mut Words, out: &mut Vec<u8>) ->
     show(b"ok", out)
 }
 
+/// Shows what a session holds.
+fn show_held(session: u64, held: &BTreeMap<Name, u64>, out: &mut Vec<u8>) -> Result<(), End> {
+    for (name, permits) in held {
+        show_number(session, out)?;
+        show_numbered(name.as_bytes(), *permits, out)?;
+    }
+    Ok(())
+}
+
 /// Shows what sessions hold.
 fn show_holdings(semaphores: &Semaphores, out: &mut Vec<u8>) -> Result<(), End> {
     show(b"held", out)?;
     for (session, held) in semaphores.holdings() {
-        for (name, permits) in held {
-            show_number(*session, out)?;
-            show_numbered(name.as_bytes(), *permits, out)?;
-        }
+        show_held(*session, held, out)?;
     }
     Ok(())
 }
