@@ -1,0 +1,10 @@
+pub mod Among
+pub mod Keeping
+pub mod Walk
+pub mod Lookups
+pub mod Ordered
+pub mod Apart
+pub mod Moves
+pub mod Numbers
+pub mod Chosen
+pub mod Sound

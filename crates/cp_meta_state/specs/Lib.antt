@@ -1,0 +1,14 @@
+pub mod MetaState
+pub mod Loads
+pub mod Says
+pub mod Creating
+pub mod Destroying
+pub mod Leaving
+pub mod Joining
+pub mod Moving
+pub mod Apply
+pub mod Ranges
+pub mod Laws
+pub mod Worked
+pub mod WorkedGroups
+pub mod WorkedMoves
