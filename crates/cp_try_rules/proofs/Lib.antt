@@ -1,0 +1,13 @@
+pub mod Told
+pub mod Walk
+pub mod CallWalk
+pub mod EventWalk
+pub mod Threads
+pub mod Counting
+pub mod Counted
+pub mod Begun
+pub mod Rising
+pub mod History
+pub mod Losses
+pub mod Delays
+pub mod Caused
