@@ -39,7 +39,7 @@ rise-push (x ∷ begun) a rise less = (first, rise-push begun a rise.1 (λ b h s
 -- two requests of one call are one
 pub rise-same : (begun : List Asked) → NumbersRise begun → (a b : Asked) → Contains begun a → Contains begun b → a.call ≡ b.call → a ≡ b
 rise-same [] rise a b ha hb same = absurd (contains-none a ha)
-rise-same (x ∷ begun) rise a b ha hb same = by (contains-cases x begun a ha) (contains-cases x begun b hb) where
+rise-same (x ∷ begun) rise a b ha hb same = by (λ p q. rise-same begun rise.1 a b p q same) (contains-cases x begun a ha) (contains-cases x begun b hb) where
   thread : a.call.thread ≡ b.call.thread
   thread = ap (λ i. i.thread) same
 
@@ -49,11 +49,11 @@ rise-same (x ∷ begun) rise a b ha hb same = by (contains-cases x begun a ha) (
   ahead : (y z : Asked) → x ≡ y → Contains begun z → y.call.thread ≡ z.call.thread → y.call.number ≡ z.call.number → ⊥
   ahead y z is h t n = let less : y.call.number < z.call.number = subst (λ w. w.call.number < z.call.number) is (rise.0 z h (ap (λ w. w.call.thread) is ∙ t)) in omega (arith, less, n)
 
-  by : (x ≡ a) ⊎ Contains begun a → (x ≡ b) ⊎ Contains begun b → a ≡ b
-  by (inl p) (inl q) = sym p ∙ q
-  by (inl p) (inr q) = absurd (ahead a b p q thread number)
-  by (inr p) (inl q) = absurd (ahead b a q p (sym thread) (sym number))
-  by (inr p) (inr q) = rise-same begun rise.1 a b p q same
+  by : (Contains begun a → Contains begun b → a ≡ b) → (x ≡ a) ⊎ Contains begun a → (x ≡ b) ⊎ Contains begun b → a ≡ b
+  by later (inl p) (inl q) = sym p ∙ q
+  by later (inl p) (inr q) = absurd (ahead a b p q thread number)
+  by later (inr p) (inl q) = absurd (ahead b a q p (sym thread) (sym number))
+  by later (inr p) (inr q) = later p q
 
 abbrev DidRises : Client → Did → Type 0
 DidRises c d = (begun : List Asked) → NumbersRise begun → Below begun c → NumbersRise (begun ++ d.asked) × Below (begun ++ d.asked) d.client
