@@ -1,7 +1,6 @@
 -- The first of a list that passes a test, by its place.
-use Rattle.std.proofs.Common.{◌≡◌, ◌≢◌, ℕ, suc, ◌<◌, ◌≤◌, List, [], ◌++◌, length, take, drop, cond, ap, ap₂, sym, ◌∙◌, arith, subst, ⊎_elim, Bool, true, false, refl, Option, Some, None, true≢false, nat_lt, ltb-true, ltb-false}
+use Rattle.std.proofs.Common.{◌≡◌, ℕ, suc, ◌<◌, ◌≤◌, List, ◌++◌, length, cond, ap, ap₂, ◌∙◌, arith, subst, Bool, true, false, refl, Option, Some, None, nat_lt, ltb-true, ltb-false}
 use Rattle.std.specs.List.{find, position, position_or_len, remove, slice_get}
-use Rattle.std.proofs.lemmas.Bool.{cases_Bool}
 use Rattle.std.proofs.lemmas.List.{append-nil, drop_all, take_all}
 use Rattle.std.proofs.lemmas.List.Folds.{find_at}
 use Rattle.std.proofs.lemmas.Option.{same_Some, slice_get_past, slice_get_read}

@@ -1,6 +1,5 @@
 -- Two reads at member 1, which leads three.
 use Rattle.std.specs.Prelude.{ℕ, List, [], ◌∷◌, map}
-use Rattle.cp_base.specs.declared.identifier.Invocation.{Invocation}
 use Rattle.cp_rules.specs.Confirming.{with_round}
 use Rattle.cp_rules.specs.Volatile.{Look, Reads, no_reads}
 use Rattle.cp_rules.specs.Worked.{caller}
