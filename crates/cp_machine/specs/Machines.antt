@@ -1,7 +1,8 @@
 -- What machines step to, and what of it can be spelled.
-use Rattle.std.specs.Prelude.{◌≡◌, ◌≤◌, ◌-◌, ◌^◌, ℕ, List, Result, Ok, Err}
+use Rattle.std.specs.Prelude.{◌≡◌, ◌≤◌, ◌-◌, ◌^◌, ℕ, List, Option, Some, None, Result, Ok, Err}
 use Rattle.std.specs.List.{AllByRecursion}
 use Rattle.cp_base.specs.declared.identifier.Invocation.{Invocation}
+use Rattle.cp_base.specs.declared.limits.TheConstants.{MOST_MEMBER}
 use Rattle.cp_answers.specs.declared.answer.Answer.{Answer}
 use Rattle.cp_answers.specs.Answers.{answer_grammar}
 use Rattle.cp_grammar.specs.Common.{index, invocation}
@@ -11,6 +12,12 @@ use Rattle.cp_machine.specs.declared.timer.Timed.{Timed}
 use Rattle.cp_machine.specs.declared.timer.Timed.TheVariants as timed
 use Rattle.cp_machine.specs.declared.timer.Timer.{Timer}
 
+-- how many members there are, and how many of them a group has at first
+pub record IsSized (members size : ℕ) : Type 0 where
+  pub some : 1 ≤ size
+  pub within : size ≤ members
+  pub most : members ≤ MOST_MEMBER
+
 -- what an entry leaves, and what it answers
 pub record Stepped (V : Type 0) : Type 0 where
   pub view : V
@@ -19,6 +26,11 @@ pub record Stepped (V : Type 0) : Type 0 where
 -- each answer, and the call that it is for, has a spelling
 abbrev pub AnswersFit : List (Invocation × Answer) → Type 0
 AnswersFit answers = AllByRecursion (λ told. invocation.Fits told.0 × answer_grammar.Fits told.1) answers
+
+-- an answer that is given has a spelling
+abbrev pub LookFits : Option Answer → Type 0
+LookFits None = Unit {0}
+LookFits (Some answer) = answer_grammar.Fits answer
 
 abbrev pub TimedFits : Timed → Type 0
 TimedFits (timed.Session session version) = index.Fits session × index.Fits version

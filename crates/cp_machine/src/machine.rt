@@ -7,7 +7,7 @@ ghost use Rattle.cp_answers.specs.declared.answer.Answer.{Answer};
 ghost use Rattle.cp_grammar.specs.Grammar.{whole};
 ghost use Rattle.cp_ops.specs.Entries.{entry_grammar};
 ghost use Rattle.cp_machine.specs.declared.timer.Timer.{Timer};
-ghost use Rattle.cp_machine.specs.Machines.{Stepped, AnswersFit, TimerFits, Restores};
+ghost use Rattle.cp_machine.specs.Machines.{Stepped, AnswersFit, IsSized, LookFits, TimerFits, Restores};
 
 use crate::timer::Timer;
 use cp_answers::Answer;
@@ -45,8 +45,10 @@ pub trait Machine: Sized + Drop {
     /// What a read of these bytes is answered without an entry, if it is one.
     ghost looked: { View → List ℕ → Option Answer };
 
-    /// The machine of a group to which no entry was applied.
+    /// The machine of a group to which no entry was applied. The members are numbered from 1, and those up to `size` are the first
+    /// ones of the group.
     fn new(alloc: Global, group: GroupId, members: u8, size: u8) -> Result<Self, NoMemory>
+        requires { IsSized members size }
         ensures { IfOk result (λ machine. view machine ≡ first group members size) };
 
     /// Applies the entry of this index, and appends the answers that it gives.
@@ -79,7 +81,9 @@ pub trait Machine: Sized + Drop {
 
     /// What a read is answered without an entry. Bytes that spell no such read are answered by none.
     fn look(&self, op: &[u8]) -> Result<Option<Answer>, NoMemory>
-        ensures { IfOk result (λ answer. answer ≡ looked (view self.now) op.now) };
+        ensures answer { IfOk result (λ answer. answer ≡ looked (view self.now) op.now) }
+        // An answer that is given can be spelled.
+        ensures fit { IfOk result (λ answer. LookFits answer) };
 
     /// Bytes that spell no entry change nothing and answer nothing.
     ghost quiet: { (v : View) (index place : ℕ) (bytes : List ℕ) → whole entry_grammar bytes ≡ Err place →

@@ -5,3 +5,4 @@ pub mod Held
 pub mod Sound
 pub mod Together
 pub mod Outcomes
+pub mod Looks

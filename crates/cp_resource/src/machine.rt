@@ -1,6 +1,6 @@
 //! The machine of a group that holds objects.
 ghost use Rattle.std.specs.Prelude.{◌≡◌, ◌++◌, ◌<◌, ◌≤◌, ◌^◌, Ok, Some, length, slice_get, IfOk, OnErr, OnOk};
-ghost use Rattle.cp_machine.specs.Machines.{AnswersFit, TimerFits};
+ghost use Rattle.cp_machine.specs.Machines.{AnswersFit, LookFits, TimerFits};
 ghost use Rattle.cp_group_state.specs.GroupState.{empty};
 ghost use Rattle.cp_state_bytes.specs.States.{restored, spelled};
 ghost use Rattle.cp_resource.specs.Restoring.{RestoresTables};
@@ -99,7 +99,8 @@ impl GroupMachine {
 
     /// What a read is answered without an entry. Bytes that spell no such read are answered by none.
     pub fn look_at(&self, op: &[u8]) -> Result<Option<Answer>, NoMemory>
-        ensures { IfOk result (λ answer. answer ≡ looked self.now op.now) }
+        ensures answer { IfOk result (λ answer. answer ≡ looked self.now op.now) }
+        ensures fit { IfOk result (λ answer. LookFits answer) }
     {
         if self.is_spent {
             return Err(NoMemory);

@@ -1,10 +1,12 @@
 //! What the bytes of an entry do to the tables of a group.
 ghost use Rattle.std.specs.Prelude.{◌≡◌, ◌++◌, ◌≤◌, ◌^◌, OnOk, IfOk};
 ghost use Rattle.cp_ops.specs.Entries.{entry_grammar};
-ghost use Rattle.cp_machine.specs.Machines.{AnswersFit};
+ghost use Rattle.cp_ops.specs.Ops.{op_grammar};
+ghost use Rattle.cp_machine.specs.Machines.{AnswersFit, LookFits};
 ghost use Rattle.cp_group_state.specs.Apply.{apply};
 ghost use Rattle.cp_group_ranges.specs.States.{IsSound};
 ghost use Rattle.cp_group_ranges.specs.Laws.{IsSoundStep};
+ghost use Rattle.cp_resource.specs.Reads.{look};
 ghost use Rattle.cp_resource.specs.Stepping.{looked, step, stepped};
 
 use crate::look;
@@ -57,16 +59,29 @@ pub(crate) fn apply_bytes(
     }
 }
 
-/// What a read of these bytes is answered without an entry.
+/// What a read that has a spelling is answered without an entry.
+#[tactic(auto, using(crate::proofs::Looks::look_fits))]
+fn look_at_op(tables: &GroupTables, op: &Op) -> Result<Option<Answer>, NoMemory>
+    requires fits { op_grammar.Fits op.now }
+    requires sound { IsSound tables.now }
+    ensures answer { IfOk result (λ answer. answer ≡ look op.now tables.now) }
+    ensures fit { IfOk result (λ answer. LookFits answer) }
+{
+    look(tables, op)
+}
+
+/// What a read of these bytes is answered without an entry. The answer has a spelling.
 pub(crate) fn look_at(
     alloc: Global,
     tables: &GroupTables,
     bytes: &[u8],
 ) -> Result<Option<Answer>, NoMemory>
-    ensures { IfOk result (λ answer. answer ≡ looked tables.now bytes.now) }
+    requires { IsSound tables.now }
+    ensures answer { IfOk result (λ answer. answer ≡ looked tables.now bytes.now) }
+    ensures fit { IfOk result (λ answer. LookFits answer) }
 {
     match Op::read(alloc, bytes) {
-        Ok(op) => look(tables, &op),
+        Ok(op) => look_at_op(tables, &op),
         Err(ReadError::NotInGrammar(_place)) => Ok(None),
         Err(ReadError::NoMemory) => Err(NoMemory),
     }
