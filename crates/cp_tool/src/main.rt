@@ -1,15 +1,9 @@
 //! The program `cp`.
 #![tactic(auto)]
 
-#[cfg(test)]
-mod client_tests;
 mod run;
 mod running;
-#[cfg(test)]
-mod schedule_tests;
 mod status;
-#[cfg(test)]
-mod tests;
 
 use cp_base::NoMemory;
 use cp_disk::MemoryDisk;
