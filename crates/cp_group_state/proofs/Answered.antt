@@ -23,7 +23,7 @@ use Rattle.cp_group_state.specs.Outcomes.{Reply, Answered, Waits}
 use Rattle.cp_group_state.specs.Protected.{session_in}
 use Rattle.cp_group_state.specs.Closing.{close}
 use Rattle.cp_group_state.specs.Serving.{serve_left}
-use Rattle.cp_group_state.specs.Fences.{IsHeldUnder, FencesStand}
+use Rattle.cp_group_state.specs.Fences.{IsHeldUnder}
 use Rattle.cp_group_state.specs.History.{IsOrderly, IsOrderlyFrom}
 use Rattle.cp_group_state.proofs.Rising.{Rising}
 use Rattle.cp_group_state.proofs.Walk.{cases, either, walk_supersede}
@@ -172,7 +172,12 @@ module _ (all : List Entry) where
   within-le : (a b : ℕ) (rows : List (List ℕ × LatchRow)) → a ≤ b → RoundsWithin a rows → RoundsWithin b rows
   within-le a b rows l h = λ k d m. let x = h k d m in omega arith
 
-  stand-from : (b i : ℕ) (past : List (Invocation × Answer)) (es : List Entry) (s : GroupState) → ((e : Entry) → Contains es e → Contains all e) → b + length es ≤ 2 ^ 62 → Rising name_cmp s.locks → AllAsked all s → RoundsWithin b s.latches → Told i past s → IsOrderlyFrom i es s → FencesStand all past (run i es s)
+  -- each fence of a run is that of a lock which is so held after the entry, or it was told before
+  abbrev pub StandFrom : List (Invocation × Answer) → List Applied → Type 0
+  StandFrom past [] = Unit {0}
+  StandFrom past (x ∷ xs) = StepStands past x × StandFrom (past ++ x.answers) xs
+
+  stand-from : (b i : ℕ) (past : List (Invocation × Answer)) (es : List Entry) (s : GroupState) → ((e : Entry) → Contains es e → Contains all e) → b + length es ≤ 2 ^ 62 → Rising name_cmp s.locks → AllAsked all s → RoundsWithin b s.latches → Told i past s → IsOrderlyFrom i es s → StandFrom past (run i es s)
   stand-from b i past [] s sub few h asked rounds told_all ord = tt
   stand-from b i past (e ∷ es) s sub few h asked rounds told_all ord = let there : Contains all e = sub e (Contains-append_left (e ∷ []) es e (Contains-push [] e)) in (
     apply-stands i past e s there h asked told_all,
@@ -186,7 +191,7 @@ no-element x h = let l = h.1 in absurd (omega arith)
 no_row : (session thread : ℕ) (row : MemoryRow) → find holder_cmp empty.memory (session, thread) ≡ Some row → ⊥
 no_row session thread row e = cc
 
-pub fences-stand : (es : List Entry) → IsOrderly es → FencesStand es [] (run 1 es empty)
+pub run-stands : (es : List Entry) → IsOrderly es → StandFrom es [] (run 1 es empty)
 unfolding IsStrictlySortedBy
-fences-stand es orderly = stand-from es 0 1 [] es empty (λ e h. h) (let f = orderly.few in omega arith) tt (λ w h. absurd (no-element w h)) (All-nil (λ (r : LatchRow). r.round ≤ 0))
+run-stands es orderly = stand-from es 0 1 [] es empty (λ e h. h) (let f = orderly.few in omega arith) tt (λ w h. absurd (no-element w h)) (All-nil (λ (r : LatchRow). r.round ≤ 0))
     (record { waiters = λ w h. absurd (no-element w h); memory = λ session thread row e. absurd (no_row session thread row e) }) orderly.entries
