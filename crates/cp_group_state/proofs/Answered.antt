@@ -32,7 +32,7 @@ use Rattle.cp_group_state.proofs.Told.{Told, Tells, tells_closed, told-apply}
 use Rattle.cp_group_state.proofs.Fences.{locks-apply, LocksHold, locks_closed}
 use Rattle.cp_group_state.proofs.Walk.{walk_close}
 use Rattle.cp_group_state.proofs.Stand.{IsGiven, NoFence, no-held, IsQuietEnd, EndedStand, quiet-answers, quiet-supersede, quiet-time_out, stand-close}
-use Rattle.cp_group_state.proofs.Own.{IsOwnHeld, OwnStands, AskedBy, outcome-stands}
+use Rattle.cp_group_state.proofs.Own.{IsOwnHeld, OwnStands, AskedBy, NamedBy, outcome-stands}
 use Rattle.cp_group_state.proofs.Asked.{IsAsked, AllAsked, EndsAsked, KeepsAsked, asked_closed, asked-outcome, asked-supersede, asked-apply, given-held}
 
 module _ (all : List Entry) where
@@ -52,8 +52,9 @@ module _ (all : List Entry) where
   told-quiet locks ended h = All-map (λ (a : Invocation × Answer). IsHeldUnder all locks a.0 a.1) (λ e. (e.waiter.call, e.answer)) ended
       (All-weaker (λ (e : Ended). NoFence e.answer) (λ (e : Ended). IsHeldUnder all locks e.waiter.call e.answer) (λ e k. no-held all locks e.waiter.call e.answer k) ended h)
 
-  own-held : (call : Invocation) (o : Op) (locks : List (List ℕ × LockRow)) (a : Answer) → Contains all (entry.Call call o) → IsOwnHeld (AskedBy o) locks call.thread a → IsHeldUnder all locks call a
+  own-held : (call : Invocation) (o : Op) (locks : List (List ℕ × LockRow)) (a : Answer) → Contains all (entry.Call call o) → IsOwnHeld (AskedBy o) (NamedBy o) locks call.thread a → IsHeldUnder all locks call a
   own-held call o locks (answer.Fence f) there h = (h.0, h.1, (o, there, h.2.0, h.2.1), h.3, h.4, h.5)
+  own-held call o locks (answer.Held session thread holds f) there h = (h.0, (o, there, h.1), h.2, h.3, h.4, h.5)
   own-held call o locks a there h = tt
 
   none : (locks : List (List ℕ × LockRow)) → AnswersStand locks []
@@ -67,7 +68,7 @@ module _ (all : List Entry) where
   remembered-locks None call a s = refl
   remembered-locks (Some session) call a s = refl
 
-  settle-locked : (so : Option ℕ) (call : Invocation) (o : Op) (r : Reply) (c : Change) → Contains all (entry.Call call o) → EndedStand c.state.locks c.ended → EndsAsked all c.ended → OwnStands (AskedBy o) call c.state.locks r → StepLocked c.state.locks (settle so call r c)
+  settle-locked : (so : Option ℕ) (call : Invocation) (o : Op) (r : Reply) (c : Change) → Contains all (entry.Call call o) → EndedStand c.state.locks c.ended → EndsAsked all c.ended → OwnStands (AskedBy o) (NamedBy o) call c.state.locks r → StepLocked c.state.locks (settle so call r c)
   settle-locked so call o (Answered a) c there h asked own = (remembered-locks so call (Some a) c.state, All-cons (λ (a : Invocation × Answer). IsHeldUnder all c.state.locks a.0 a.1) (call, a) (told c.ended) (own-held call o c.state.locks a there own) (told-stand c.state.locks c.ended h asked))
   settle-locked so call o (Waits w) c there h asked own = let x = wait in (x.0, All-append (λ (a : Invocation × Answer). IsHeldUnder all c.state.locks a.0 a.1) (told c.ended) (settle_wait so call w c.state).answers (told-stand c.state.locks c.ended h asked) x.1)
     where

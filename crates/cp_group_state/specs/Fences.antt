@@ -53,10 +53,17 @@ LocksHaveOneOwner history = HaveOneOwner (locks_of history)
 abbrev pub IsAskedFor : History → Invocation → List ℕ → ℕ → Type 0
 IsAskedFor history call name session = (o : Op) × Contains history (entry.Call call o) × (object_of o ≡ Some (name, kind.Lock)) × (session_in o ≡ Some session)
 
--- A fence that is answered to a call is that of the lock which it asks for, and which its thread holds in its session.
+-- the call names this lock
+abbrev pub IsNamedBy : History → Invocation → List ℕ → Type 0
+IsNamedBy history call name = (o : Op) × Contains history (entry.Call call o) × (object_of o ≡ Some (name, kind.Lock))
+
+-- A fence that is answered to a call is that of the lock which it asks for, and which its thread holds in its session. Who
+-- asks for the owner of a lock is told the owner and the fence of its hold.
 abbrev pub IsHeldUnder : History → Named LockRow → Invocation → Answer → Type 0
 IsHeldUnder history locks call (answer.Fence f) = (name : List ℕ) × (session : ℕ) × IsAskedFor history call name session × (is_free (lock_at locks name) ≡ false)
     × ((lock_at locks name).holder ≡ record { session = session; thread = call.thread }) × ((lock_at locks name).fence ≡ f)
+IsHeldUnder history locks call (answer.Held session thread holds f) = (name : List ℕ) × IsNamedBy history call name × (is_free (lock_at locks name) ≡ false)
+    × ((lock_at locks name).holder ≡ record { session = session; thread = thread }) × ((lock_at locks name).holds ≡ holds) × ((lock_at locks name).fence ≡ f)
 IsHeldUnder history locks call a = Unit {0}
 
 -- an entry of a lower index gave this answer to the call
