@@ -106,7 +106,7 @@ module _ (history : History) where
   cause-later n m call answer.TimedOut l (inl h) = inl (record { ruled = record { op = h.ruled.op; place = h.ruled.place; in_time = le_trans h.ruled.in_time l; own = h.ruled.own; judged = h.ruled.judged; given = h.ruled.given }; at_once = h.at_once; in_vain = h.in_vain })
   cause-later n m call answer.TimedOut l (inr h) = inr (record { calls = h.calls; place = h.place; in_time = le_trans h.in_time l; there = h.there; named = h.named; waited = h.waited })
   cause-later n m call (answer.WaitCancelled x) l h = (h.0, h.1, stands-later n m _ l h.2, h.3, h.4, h.5, h.6)
-  cause-later n m call (answer.Stale x) l h = (h.0, h.1, stands-later n m _ l h.2, h.3, h.4, h.5, h.6)
+  cause-later n m call (answer.Stale x) l h = (h.0, le_trans h.1 l, h.2)
   cause-later n m call answer.ObjectDestroyed l h = record { asked = h.asked; own = h.own; object = h.object; names = h.names; by = h.by; place = h.place; in_time = le_trans h.in_time l; there = h.there; done = h.done }
   cause-later n m call (answer.GroupDestroyed g) l h = stands-later n m _ l h
   cause-later n m call answer.OwnershipLost l h = absurd h
@@ -374,7 +374,7 @@ module _ (history : History) where
         let below : x < i = subst (λ so. IsBelow i so) names ord.0 in
         let was : is_open_for s.sessions x call.client ≡ true = grows-t.opened x call.client below opened in
         let by = knows.memory x call.thread.0 old.0 old.1 call.client was in
-        (record { client = call.client; thread = call.thread; number = old.0.number }, by.0, stands-later place i _ (omega arith) by.1, refl, refl, old.2, less)
+        (place, omega arith, (record { client = call.client; thread = call.thread; number = old.0.number }, by.0, by.1, refl, refl, old.2, less))
 
     -- where this comes to the rule, so does the entry
     abbrev pub Leads : Applied → Type 0

@@ -23,7 +23,7 @@ use Rattle.cp_group_state.specs.Apply.{Applied, after_change, apply, perform, su
 use Rattle.cp_group_state.specs.Fences.{HaveOneOwner, HoldsRise, IsSameHold}
 use Rattle.cp_group_state.specs.History.{Given, History, IsFullyOrderly, IsGivenAt, IsOrderlyFrom, state_before}
 use Rattle.cp_group_state.proofs.Examples.{asks, call, k, s}
-use Rattle.cp_group_causes.specs.Causes.{HasCause, IsDestroyed, IsImpatient, IsRuled, IsTimedOut, SessionEnded, is_open, must_wait, wish_in}
+use Rattle.cp_group_causes.specs.Causes.{HasCause, IsDestroyed, IsImpatient, IsOvertaken, IsRuled, IsTimedOut, SessionEnded, is_open, must_wait, wish_in}
 use Rattle.cp_group_causes.specs.Moments.{StandsBy}
 use Rattle.cp_group_causes.proofs.Lists.{at-head, at-tail, no-element, one-only}
 
@@ -182,6 +182,20 @@ refuses_timing_out_who_holds (inr h) = by h.place h.in_time h.there h.waited whe
   by (suc zero) l there waited = no-call there
   by (suc (suc zero)) l there waited = no_true (sym waited)
   by (suc (suc (suc n))) l there waited = absurd (omega (arith, l))
+
+-- A call is told that it comes late by the very entry of the later call.
+abbrev pub comes_late_too_soon : History
+comes_late_too_soon = asks 1 1 1 (op.Session session.Open) ∷ asks 1 1 2 (op.Long k long.Get) ∷ []
+
+-- a later call by then was enough
+pub late_passed : IsOvertaken comes_late_too_soon 2 (call 1 1 1) 2
+late_passed = (call 1 1 2, op.Long k long.Get, record { place = 1; in_time = omega arith; there = refl }, refl, refl, refl, omega arith)
+
+pub refuses_late_too_soon : HasCause comes_late_too_soon 2 (call 1 1 1) (answer.Stale 2) → ⊥
+refuses_late_too_soon h = let l = h.1 in let m = h.2.2.in_time in by h.2.2.place (omega (arith, l, m)) h.2.0 h.2.1 h.2.2.there h.2.5 where
+  by : (place : ℕ) → place < 1 → (by : Invocation) (o : Op) → slice_get comes_late_too_soon place ≡ Some (entry.Call by o) → by.number ≡ 2 → ⊥
+  by zero l who o there two = let e : 1 ≡ who.number = same-number there in absurd (omega (arith, e, two))
+  by (suc n) l who o there two = absurd (omega (arith, l))
 
 -- A thread gives its lock back after its session was closed, and is told that it is not the owner, in place of why.
 abbrev pub says_not_owner_when_closed : History

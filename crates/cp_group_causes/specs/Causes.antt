@@ -85,6 +85,11 @@ EndsSession e s = ⊥
 abbrev pub is_open : GroupState → ℕ → Bool
 is_open g s = is_some (find nat_cmp g.sessions s)
 
+-- the thread made a later call, which has this number: its entry has this index or a lower one
+abbrev pub IsOvertaken : History → ℕ → Invocation → ℕ → Type 0
+IsOvertaken history index call n = (by : Invocation) × (o : Op) × StandsBy history index (entry.Call by o)
+    × (by.client ≡ call.client) × (by.thread ≡ call.thread) × (by.number ≡ n) × (call.number < n)
+
 module _ (history : History) (index : ℕ) where
   -- The rules give this answer at the call's own entry: its session was open, and it was no repeat and not late, so that
   -- what the entry does is what the rule of its operation does, once the older waits of the thread have ended.
@@ -121,10 +126,9 @@ module _ (history : History) (index : ℕ) where
     pub before : is_open (state_before history place) s ≡ true
     pub after : is_open (state_before history (place + 1)) s ≡ false
 
-  -- the thread made a later call, which has this number
-  abbrev pub IsOvertaken : Invocation → ℕ → Type 0
-  IsOvertaken call n = (by : Invocation) × (o : Op) × StandsBy history index (entry.Call by o)
-      × (by.client ≡ call.client) × (by.thread ≡ call.thread) × (by.number ≡ n) × (call.number < n)
+  -- the later call stands before the entry that gives the answer
+  abbrev pub WasOvertaken : Invocation → ℕ → Type 0
+  WasOvertaken call n = (before : ℕ) × (before < index) × IsOvertaken history before call n
 
   -- The object that the call names was destroyed, by a call that was answered so.
   pub record IsDestroyed (call : Invocation) : Type 0 where
@@ -154,8 +158,8 @@ module _ (history : History) (index : ℕ) where
   HasCause call answer.OwnershipLost = ⊥
   HasCause call (answer.SessionExpired s) = SessionEnded s
   HasCause call answer.TimedOut = IsImpatient call ⊎ IsTimedOut call
-  HasCause call (answer.WaitCancelled n) = IsOvertaken call n
-  HasCause call (answer.Stale n) = IsOvertaken call n
+  HasCause call (answer.WaitCancelled n) = IsOvertaken history index call n
+  HasCause call (answer.Stale n) = WasOvertaken call n
   HasCause call (answer.NotHeld n) = IsRuled call (answer.NotHeld n)
   HasCause call answer.NotInitialized = IsRuled call answer.NotInitialized
   HasCause call answer.ObjectDestroyed = IsDestroyed call
