@@ -15,17 +15,18 @@ use Rattle.cp_ops.specs.declared.entry.Entry.TheVariants as entry
 use Rattle.cp_ops.specs.declared.op.Op.{Op}
 use Rattle.cp_ops.specs.declared.op.Op.TheVariants as op
 use Rattle.cp_ops.specs.declared.session_op.SessionOp.TheVariants as session
-use Rattle.cp_group_state.specs.Rows.{Named}
+use Rattle.cp_group_state.specs.Rows.{Named, Object}
+use Rattle.cp_group_state.specs.Destroying.{object_of}
 use Rattle.cp_group_state.specs.Locks.{Holder, LockRow, free_lock, held_once, is_free, lock_at}
 use Rattle.cp_group_state.specs.GroupState.{empty}
 use Rattle.cp_group_state.specs.Waiters.{stands}
 use Rattle.cp_group_state.specs.Apply.{Applied, after_change, apply, perform, supersede}
-use Rattle.cp_group_state.specs.Fences.{HaveOneOwner, HoldsRise, IsSameHold}
+use Rattle.cp_group_state.specs.Fences.{HaveOneOwner, HoldsRise, IsHeldUnder, IsSameHold}
 use Rattle.cp_group_state.specs.History.{Given, History, IsFullyOrderly, IsGivenAt, IsOrderlyFrom, state_before}
 use Rattle.cp_group_state.proofs.Examples.{asks, call, k, s}
 use Rattle.cp_group_causes.specs.Causes.{HasCause, IsDestroyed, IsImpatient, IsOvertaken, IsRuled, IsTimedOut, SessionEnded, is_open, must_wait, wish_in}
 use Rattle.cp_group_causes.specs.Moments.{StandsBy}
-use Rattle.cp_group_causes.proofs.Lists.{at-head, at-tail, no-element, one-only}
+use Rattle.cp_group_causes.proofs.Lists.{at-head, at-tail, no-element, one-is, one-only}
 
 -- ---- order
 
@@ -88,6 +89,19 @@ has_two_owners n = (k, held_once who 2) ∷ (k, held_once (record { session = 3;
 
 pub refuses_two_owners : HaveOneOwner has_two_owners → ⊥
 refuses_two_owners h = let e : 0 ≡ 1 = h 0 0 1 (k, held_once who 2) (k, held_once (record { session = 3; thread = record { 0 = 1 } }) 4) refl refl refl in absurd (omega (arith, e))
+
+-- Who asks for the owner of a lock is told the fence of an older hold.
+abbrev pub asks_for_the_owner : History
+asks_for_the_owner = asks 1 1 1 (op.Lock k lock.Owner) ∷ []
+
+op-of : {c d : Invocation} {o p : Op} → entry.Call c o ≡ entry.Call d p → o ≡ p
+op-of e = cc
+
+-- of the answer about an owner nothing was asked
+pub refuses_old_fences_of_owners : IsHeldUnder asks_for_the_owner ((k, held_once who 4) ∷ []) (call 1 1 1) (answer.Held 1 (record { 0 = 1 }) 1 2) → ⊥
+refuses_old_fences_of_owners h = let asked : h.1.0 ≡ op.Lock k lock.Owner = op-of (one-is (asks 1 1 1 (op.Lock k lock.Owner)) (entry.Call (call 1 1 1) h.1.0) h.1.1) in
+    let named : (k, kind.Lock) ≡ (h.0, kind.Lock) = same_some (subst (λ (p : Op). object_of p ≡ Some (h.0, kind.Lock)) asked h.1.2) in
+    let e : 4 ≡ 2 = subst (λ (key : Object). (lock_at ((k, held_once who 4) ∷ []) key.0).fence ≡ 2) (sym named) h.5 in absurd (omega (arith, e))
 
 -- ---- causes
 
