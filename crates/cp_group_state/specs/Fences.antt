@@ -70,7 +70,8 @@ IsHeldUnder history locks call a = Unit {0}
 abbrev pub WasGivenBefore : History → ℕ → Invocation → Answer → Type 0
 WasGivenBefore history index call a = (earlier : ℕ) × (earlier < index) × IsGivenAt history earlier call a
 
--- Each fence that is answered is that of a lock which is so held after the entry, or it was told to the call before.
+-- Each fence that is answered is that of a lock which is so held after the entry, or it was told to the call before. So is
+-- what is told of the owner of a lock.
 abbrev pub FencesStand : History → Type 0
 FencesStand history = (index : ℕ) (call : Invocation) (a : Answer) → IsGivenAt history index call a
     → WasGivenBefore history index call a ⊎ IsHeldUnder history (locks_of history index) call a

@@ -37,8 +37,8 @@ pub fn lists_stay_ordered()
 {}
 
 /// In every orderly history a fence that is answered is that of the lock which the call asks for, and which its thread
-/// holds after the entry, in the session that the call names; or it was told to the call before. Who asks for the owner
-/// of a lock is told the hold that stands then.
+/// holds after the entry, in the session that the call names; who asks for the owner of a lock is told the hold that
+/// stands then; or the answer was given to the call before.
 pub fn answered_fences_stand()
     ensures { AnsweredFencesStand }
 {}
