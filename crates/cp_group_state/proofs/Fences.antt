@@ -212,7 +212,7 @@ lasts : (i : ℕ) (es : List Entry) (s : GroupState) → Rising name_cmp s.locks
     → IsOneHold (locks_from i es s) name 0 k ⊎ (i ≤ (lock_at (state_after k i es s).locks name).fence)
 lasts i es s h zero name held then_held = inl (hold-none (locks_from i es s) name held)
 lasts i [] s h (suc k) name held then_held = inl (hold-empty i s name 0 (suc k) held)
-lasts i (x ∷ es) s h (suc k) name held then_held = by (is_free (lock_at (apply i x s).state.locks name)) refl (first.1 name)
+lasts i (x ∷ es) s h (suc k) name held then_held = by (is_free (lock_at (apply i x s).state.locks name)) refl (first.1 name) (λ kept. lasts (i + 1) es (apply i x s).state first.0 k name kept then_held)
   where
     first : Rising name_cmp (apply i x s).state.locks × ((name : List ℕ) → HoldsOn i (lock_at s.locks name) (lock_at (apply i x s).state.locks name))
     first = locks-apply i x s h
@@ -240,11 +240,12 @@ lasts i (x ∷ es) s h (suc k) name held then_held = by (is_free (lock_at (apply
     goes same (inr y) = inr (omega (arith, y))
 
     by : (b : Bool) → is_free (lock_at (apply i x s).state.locks name) ≡ b → HoldsOn i (lock_at s.locks name) (lock_at (apply i x s).state.locks name)
+        → (is_free (lock_at (apply i x s).state.locks name) ≡ false → IsOneHold (locks_from (i + 1) es (apply i x s).state) name 0 k ⊎ (i + 1 ≤ (lock_at (state_after k (i + 1) es (apply i x s).state).locks name).fence))
         → IsOneHold (locks_from i (x ∷ es) s) name 0 (suc k) ⊎ (i ≤ (lock_at (state_after k (i + 1) es (apply i x s).state).locks name).fence)
-    by true free on = inr (anew free)
-    by false kept (inl y) = absurd (no_true (sym y ∙ kept))
-    by false kept (inr (inl y)) = inr (granted y)
-    by false kept (inr (inr y)) = goes y.1 (lasts (i + 1) es (apply i x s).state first.0 k name kept then_held)
+    by true free on rest = inr (anew free)
+    by false kept (inl y) rest = absurd (no_true (sym y ∙ kept))
+    by false kept (inr (inl y)) rest = inr (granted y)
+    by false kept (inr (inr y)) rest = goes y.1 (rest kept)
 
 -- the fences of the locks that are held lie below the index
 abbrev pub FencesBelow : ℕ → List (List ℕ × LockRow) → Type 0
