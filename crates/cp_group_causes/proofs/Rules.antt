@@ -32,11 +32,10 @@ use Rattle.cp_group_state.specs.Waiters.{first_on}
 use Rattle.cp_group_state.specs.declared.rows.SessionRow.{SessionRow}
 use Rattle.cp_group_state.specs.Sessions.{session_of}
 use Rattle.cp_group_state.specs.declared.rows.LockRow.{LockRow}
-use Rattle.cp_group_state.specs.Locks.{Acquired, Fence, Limit, Full, Busy, Holder, Released, Freed, Kept, NotOwner, acquired, released_by, is_free, is_held_by, lock_at, most_holds}
+use Rattle.cp_group_state.specs.Locks.{Acquired, Holder, Released, Freed, Kept, NotOwner, released_by, is_free, is_held_by, lock_at, most_holds}
 use Rattle.cp_group_state.specs.declared.rows.SemaphoreRow.{SemaphoreRow}
-use Rattle.cp_group_state.specs.Semaphores.{Semaphores, SemOutcome, SemStep, sem_step, sem_step_on, held, is_held}
+use Rattle.cp_group_state.specs.Semaphores.{SemOutcome, SemStep, sem_step, sem_step_on, held, is_held}
 use Rattle.cp_group_state.specs.Semaphores as semaphore
-use Rattle.cp_group_state.specs.declared.rows.LatchRow.{LatchRow}
 use Rattle.cp_group_state.specs.Latches.{LatchOutcome, LatchStep, latch_step, latch_at, is_over, counted_calls, most_counted}
 use Rattle.cp_group_state.specs.Latches as countdown
 use Rattle.cp_group_state.specs.Atomics.{AtomicStep, long_at, ref_at, long_set, long_answer, ref_set, ref_answer, set_value}

@@ -12,7 +12,6 @@ use Rattle.cp_object_ops.specs.declared.latch_op.LatchOp.TheVariants as latch
 use Rattle.cp_object_ops.specs.declared.lock_op.LockOp.TheVariants as lock
 use Rattle.cp_object_ops.specs.declared.long_op.LongOp.TheVariants as long
 use Rattle.cp_object_ops.specs.declared.sem_op.SemOp.TheVariants as sem
-use Rattle.cp_ops.specs.declared.entry.Entry.{Entry}
 use Rattle.cp_ops.specs.declared.entry.Entry.TheVariants as entry
 use Rattle.cp_ops.specs.declared.op.Op.{Op}
 use Rattle.cp_ops.specs.declared.op.Op.TheVariants as op

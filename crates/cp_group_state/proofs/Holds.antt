@@ -1,6 +1,6 @@
 -- What is promised of the locks of a history.
 use Rattle.std.proofs.Common.{◌≡◌, ℕ, ◌+◌, ◌<◌, ◌⊎◌, inl, inr, List, [], ◌∷◌, ◌++◌, Some, None, refl, sym, subst, ap, ◌∙◌, arith, zero, suc}
-use Rattle.std.specs.Prelude.{All, Contains, slice_get}
+use Rattle.std.specs.Prelude.{Contains, slice_get}
 use Rattle.std.specs.declared.cmp.Ordering.TheVariants.{Less, Equal}
 use Rattle.std.specs.List.{AllByRecursion}
 use Rattle.std.specs.List.Sorted.{IsStrictlySortedBy}
@@ -9,13 +9,12 @@ use Rattle.std.proofs.lemmas.List.Elements.{All-contains, Contains-append_cases}
 use Rattle.cp_base.specs.declared.identifier.Invocation.{Invocation}
 use Rattle.cp_base.proofs.Tests.{same_some}
 use Rattle.cp_answers.specs.declared.answer.Answer.{Answer}
-use Rattle.cp_ops.specs.declared.entry.Entry.{Entry}
 use Rattle.cp_group_state.specs.Rows.{name_cmp}
 use Rattle.cp_group_state.specs.Locks.{LockRow}
 use Rattle.cp_group_state.specs.GroupState.{GroupState, empty}
 use Rattle.cp_group_state.specs.Apply.{Applied, apply, run}
 use Rattle.cp_group_state.specs.Fences.{HasFences, IsHeldUnder, FencesStand, LocksHaveOneOwner, WasGivenBefore, locks_of}
-use Rattle.cp_group_state.specs.History.{History, IsGivenAt, IsOrderly, state_before}
+use Rattle.cp_group_state.specs.History.{History, IsOrderly, state_before}
 use Rattle.cp_group_state.proofs.Answered.{StandFrom, run-stands}
 use Rattle.cp_group_state.proofs.Fences.{fences-rise}
 use Rattle.cp_group_state.proofs.Keyed.{name_key}
@@ -85,7 +84,7 @@ fences-stand history orderly index call a given = by (given-by history index cal
     here : locks_of history index ≡ (apply (g.place + 1) g.entry (state_before history g.place)).state.locks
     here = ap (locks_of history) g.index_is ∙ ap (λ (s : GroupState). s.locks) (state-then history g.place g.entry g.there)
 
-    at : (Contains [] (call, a) ⊎ ToldAt (run 1 history empty) g.place call a) ⊎ IsHeldUnder history (apply (g.place + 1) g.entry (state_before history g.place)).state.locks call a
+    at : (Contains {X = Invocation × Answer} [] (call, a) ⊎ ToldAt (run 1 history empty) g.place call a) ⊎ IsHeldUnder history (apply (g.place + 1) g.entry (state_before history g.place)).state.locks call a
         → WasGivenBefore history index call a ⊎ IsHeldUnder history (locks_of history index) call a
     at (inl (inl k)) = absurd (no-element (call, a) k)
     at (inl (inr k)) = let l = k.before in let e = g.index_is in inl (1 + k.place, omega (arith, l, e), given-at 1 k.place (run 1 history empty) k.step call a k.there k.told)

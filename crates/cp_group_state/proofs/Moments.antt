@@ -1,5 +1,5 @@
 -- What a history has at each place: entries, states and answers.
-use Rattle.std.proofs.Common.{◌≡◌, ℕ, ◌+◌, ◌<◌, ◌≤◌, ◌⊎◌, inl, inr, List, [], ◌∷◌, Some, None, Option, refl, sym, subst, ap, ◌∙◌, arith, map, zero, suc}
+use Rattle.std.proofs.Common.{◌≡◌, ℕ, ◌+◌, ◌<◌, ◌⊎◌, inl, inr, List, [], ◌∷◌, Some, None, Option, refl, sym, subst, ap, ◌∙◌, arith, map, zero, suc}
 use Rattle.std.specs.Prelude.{Contains, slice_get}
 use Rattle.std.proofs.lemmas.List.Elements.{Contains-append_left, Contains-append_right, Contains-append_cases}
 use Rattle.cp_base.specs.declared.identifier.Invocation.{Invocation}
@@ -11,8 +11,8 @@ use Rattle.cp_ops.specs.declared.entry.Entry.{Entry}
 use Rattle.cp_ops.specs.declared.entry.Entry.TheVariants as entry
 use Rattle.cp_group_state.specs.GroupState.{GroupState, empty}
 use Rattle.cp_group_state.specs.Apply.{Applied, apply, run}
-use Rattle.cp_group_state.specs.Protected.{session_in, down_in}
-use Rattle.cp_group_state.specs.History.{Given, History, IsBelow, IsFullyOrderly, IsGivenAt, IsOrderly, IsOrderlyAt, IsOrderlyFrom, IsReached, given_from, sessions_in, sessions_in_call, sessions_in_op, state_after, state_before}
+use Rattle.cp_group_state.specs.Protected.{session_in}
+use Rattle.cp_group_state.specs.History.{Given, History, IsBelow, IsFullyOrderly, IsGivenAt, IsOrderly, IsOrderlyAt, IsOrderlyFrom, given_from, sessions_in, sessions_in_call, sessions_in_op, state_after, state_before}
 use Rattle.cp_group_state.proofs.Lists.{at-head, map-in, mapped, no-element}
 
 no-entry : (e : Entry) → None ≡ Some e → ⊥

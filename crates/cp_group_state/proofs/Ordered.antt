@@ -1,6 +1,6 @@
 -- Every list stays in rising order of its keys.
 use Rattle.std.proofs.Common.{◌≡◌, ℕ, zero, suc, ◌+◌, ◌-◌, ◌^◌, true, not, ◌&&◌, List, [], ◌∷◌, map, Some, None, Option, refl, ap, sym, subst, if◌then◌else◌}
-use Rattle.std.specs.Prelude.{◌==◌, nat_lt, All, length, ℤ, pos, neg_ℤ, int_lt, ◌-ℤ◌, ◌+ℤ◌, bytes_eq}
+use Rattle.std.specs.Prelude.{◌==◌, nat_lt, length, ℤ, pos, neg_ℤ, int_lt, ◌-ℤ◌, ◌+ℤ◌, bytes_eq}
 use Rattle.std.specs.Ordering.{nat_cmp}
 use Rattle.std.specs.List.Sorted.{IsStrictlySortedBy}
 use Rattle.std.specs.Map.{keys_of}
@@ -38,7 +38,6 @@ use Rattle.cp_object_ops.specs.declared.map_op.MapOp.{MapOp}
 use Rattle.cp_group_state.specs.Maps.{Pairs, Effect, Stays, Sets, Goes, MapStep, key_of, map_effect, map_answer, with_effect, map_step}
 use Rattle.cp_group_state.specs.Invariants.{IsRising, IsOrdered, Always}
 use Rattle.cp_group_state.specs.History.{state_after}
-use Rattle.std.proofs.lemmas.List.Elements.{All-nil, All-cons}
 use Rattle.cp_group_state.proofs.Keyed.{IsKey, number_key, name_key, object_key, holder_key, pair_key, pair_same, then_equal}
 use Rattle.cp_group_state.proofs.Rising.{rising-put, rising-without, rising-filter}
 use Rattle.cp_group_state.proofs.Fences.{locks-acquired, locks-released, locks-freed}
