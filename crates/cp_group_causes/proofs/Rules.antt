@@ -32,7 +32,8 @@ use Rattle.cp_group_state.specs.Waiters.{first_on}
 use Rattle.cp_group_state.specs.declared.rows.SessionRow.{SessionRow}
 use Rattle.cp_group_state.specs.Sessions.{session_of}
 use Rattle.cp_group_state.specs.declared.rows.LockRow.{LockRow}
-use Rattle.cp_group_state.specs.Locks.{Acquired, Holder, Released, Freed, Kept, NotOwner, released_by, is_free, is_held_by, lock_at, most_holds}
+use Rattle.cp_group_state.specs.Locks.{Acquired, Released, Freed, Kept, NotOwner, released_by, is_free, is_held_by, lock_at, most_holds}
+use Rattle.cp_group_state.specs.declared.rows.Holder.{Holder}
 use Rattle.cp_group_state.specs.declared.rows.SemaphoreRow.{SemaphoreRow}
 use Rattle.cp_group_state.specs.Semaphores.{SemOutcome, SemStep, sem_step, sem_step_on, held, is_held}
 use Rattle.cp_group_state.specs.Semaphores as semaphore

@@ -53,7 +53,7 @@ refuses_beats_above h = let l : 9 < 1 + 1 = h.sessions 1 (asks 1 2 (op.Session (
 pub refuses_closes_above : IsFullyOrderly closes_a_session_above_itself → ⊥
 refuses_closes_above h = let l : 2 < 1 + 1 = h.sessions 1 (asks 1 2 (op.Session (session.Close 2))) 2 refl (at-head 2 []) in absurd (omega (arith, l))
 
-second : Contains (1 ∷ 9 ∷ []) 9
+second : Contains {X = ℕ} (1 ∷ 9 ∷ []) 9
 second = at-tail 1 9 (9 ∷ []) (at-head 9 [])
 
 pub refuses_expiries_above : IsFullyOrderly expires_a_session_above_itself → ⊥
@@ -250,7 +250,7 @@ gone_next : Given
 gone_next = given 3 (call 1 2) (answer.GroupDestroyed (record { 0 = 7 }))
 
 not_ok : (g h : Given) → is_ok g.answer ≡ true → is_ok h.answer ≡ false → g ≡ h → ⊥
-not_ok g h yes no e = no_true (sym yes ∙ ap (λ (x : Given). is_ok x.answer) e ∙ no)
+not_ok g h ok other e = no_true (sym ok ∙ ap (λ (x : Given). is_ok x.answer) e ∙ other)
 
 pub refuses_destroys_in_vain : HasCause destroys_in_vain 3 (call 1 2) answer.ObjectDestroyed → ⊥
 unfolding is_ok gone_first gone_next

@@ -21,7 +21,7 @@ use Rattle.cp_op_values.specs.declared.wish.Wish.TheVariants as wish
 use Rattle.cp_group_state.specs.Rows.{Object, find, object_cmp}
 use Rattle.cp_group_state.specs.Waiters.{first_on, stands}
 use Rattle.cp_group_state.specs.Locks.{is_free, is_held_by, lock_at}
-use Rattle.cp_group_state.specs.Semaphores.{SemaphoreRow}
+use Rattle.cp_group_state.specs.declared.rows.SemaphoreRow.{SemaphoreRow}
 use Rattle.cp_group_state.specs.Latches.{latch_at}
 use Rattle.cp_group_state.specs.GroupState.{GroupState}
 use Rattle.cp_group_state.specs.Apply.{after_change, apply, perform, supersede}

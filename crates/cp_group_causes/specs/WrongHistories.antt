@@ -16,7 +16,9 @@ use Rattle.cp_ops.specs.declared.op.Op.{Op}
 use Rattle.cp_ops.specs.declared.op.Op.TheVariants as op
 use Rattle.cp_ops.specs.declared.session_op.SessionOp.TheVariants as session
 use Rattle.cp_group_state.specs.Rows.{Named}
-use Rattle.cp_group_state.specs.Locks.{Holder, LockRow, free_lock, held_once}
+use Rattle.cp_group_state.specs.declared.rows.Holder.{Holder}
+use Rattle.cp_group_state.specs.declared.rows.LockRow.{LockRow}
+use Rattle.cp_group_state.specs.Locks.{free_lock, held_once}
 use Rattle.cp_group_state.specs.GroupState.{GroupState, empty}
 use Rattle.cp_group_state.specs.Apply.{Applied}
 use Rattle.cp_group_state.specs.Fences.{HaveOneOwner, HoldsRise, IsHeldUnder}
