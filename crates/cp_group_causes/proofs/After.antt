@@ -19,7 +19,8 @@ use Rattle.cp_group_state.specs.Memory.{remember}
 use Rattle.cp_group_state.specs.Sessions.{is_open_for}
 use Rattle.cp_group_state.specs.GroupState.{GroupState}
 use Rattle.cp_group_state.specs.Changes.{Change}
-use Rattle.cp_group_state.specs.Outcomes.{Reply, Answered, Waits}
+use Rattle.cp_group_state.specs.declared.outcome.Reply.{Reply}
+use Rattle.cp_group_state.specs.declared.outcome.Reply.TheVariants.{Answered, Waits}
 use Rattle.cp_group_state.specs.Destroying.{is_gone}
 use Rattle.cp_group_state.specs.Protected.{session_in}
 use Rattle.cp_group_state.specs.Apply.{Applied, apply, apply_call, by_memory, by_session, is_elsewhere, join, outcome, perform, remembered, settle, supersede}

@@ -30,17 +30,25 @@ use Rattle.cp_group_state.specs.declared.rows.Waiter.{Waiter}
 use Rattle.cp_group_state.specs.declared.rows.SessionRow.{SessionRow}
 use Rattle.cp_group_state.specs.Sessions.{session_of}
 use Rattle.cp_group_state.specs.declared.rows.LockRow.{LockRow}
-use Rattle.cp_group_state.specs.Locks.{Taken, Fence, Limit, Full, Busy, Released, Freed, Kept, NotOwner, acquired, released_by, is_free, lock_at}
+use Rattle.cp_group_state.specs.declared.outcome.Taken.{Taken}
+use Rattle.cp_group_state.specs.declared.outcome.Taken.TheVariants.{Fence, Limit, Busy}
+use Rattle.cp_group_state.specs.declared.outcome.Released.{Released}
+use Rattle.cp_group_state.specs.declared.outcome.Released.TheVariants.{Freed, Kept, NotOwner}
+use Rattle.cp_group_state.specs.Locks.{acquired, released_by, is_free, lock_at}
 use Rattle.cp_group_state.specs.declared.rows.SemaphoreRow.{SemaphoreRow}
-use Rattle.cp_group_state.specs.Semaphores.{Semaphores, SemOutcome, SemStep, sem_step, sem_step_on, held, is_held}
-use Rattle.cp_group_state.specs.Semaphores as semaphore
+use Rattle.cp_group_state.specs.declared.outcome.SemOutcome.{SemOutcome}
+use Rattle.cp_group_state.specs.Semaphores.{Semaphores, SemStep, sem_step, sem_step_on, held, is_held}
+use Rattle.cp_group_state.specs.declared.outcome.SemOutcome.TheVariants as semaphore
 use Rattle.cp_group_state.specs.declared.rows.LatchRow.{LatchRow}
-use Rattle.cp_group_state.specs.Latches.{LatchOutcome, LatchStep, latch_step, latch_at, is_over, counted_calls, most_counted}
-use Rattle.cp_group_state.specs.Latches as countdown
+use Rattle.cp_group_state.specs.declared.outcome.LatchOutcome.{LatchOutcome}
+use Rattle.cp_group_state.specs.Latches.{LatchStep, latch_step, latch_at, is_over, counted_calls, most_counted}
+use Rattle.cp_group_state.specs.declared.outcome.LatchOutcome.TheVariants as countdown
 use Rattle.cp_group_state.specs.Atomics.{AtomicStep, long_at, ref_at, long_set, long_answer, ref_set, ref_answer, set_value}
 use Rattle.cp_group_state.specs.Maps.{Effect, Stays, Sets, Goes, MapStep, Pairs, map_answer, map_effect, with_effect, key_of}
 use Rattle.cp_group_state.specs.GroupState.{GroupState}
-use Rattle.cp_group_state.specs.Outcomes.{Outcome, Reply, Answered, Waits, wait}
+use Rattle.cp_group_state.specs.declared.outcome.Reply.{Reply}
+use Rattle.cp_group_state.specs.declared.outcome.Reply.TheVariants.{Answered, Waits}
+use Rattle.cp_group_state.specs.Outcomes.{Outcome, wait}
 use Rattle.cp_group_state.specs.LockRules.{lock_rule, on_taken, on_released, owner_answer}
 use Rattle.cp_group_state.specs.SemaphoreRules.{sem_rule, sem_wait, on_sem, is_behind}
 use Rattle.cp_group_state.specs.SessionRules.{session_rule, opened, beat}
@@ -148,11 +156,11 @@ map-plain now (map.Cas key old value) = tt
 owner-plain : (row : LockRow) → IsPlain (owner_answer row)
 owner-plain row = either IsPlain (is_free row) _ _ tt tt
 
-taken-replies : (o : Op) (s : GroupState) (w : Waiter) (x : Wish) (taken : Taken) (t : GroupState) → wish_in o ≡ Some x → RepliesSo o s (on_taken w x taken t).reply
-taken-replies o s w x (Fence f) t h = tt
-taken-replies o s w x (Limit n) t h = tt
-taken-replies o s w x Full t h = tt
-taken-replies o s w x Busy t h = wait-replies o s w x t h
+taken-replies : (o : Op) (s : GroupState) (w : Waiter) (x : Wish) (taken : Option Taken) (t : GroupState) → wish_in o ≡ Some x → RepliesSo o s (on_taken w x taken t).reply
+taken-replies o s w x (Some (Fence f)) t h = tt
+taken-replies o s w x (Some (Limit n)) t h = tt
+taken-replies o s w x None t h = tt
+taken-replies o s w x (Some Busy) t h = wait-replies o s w x t h
 
 released-replies : (i : ℕ) (o : Op) (s : GroupState) (name : List ℕ) (r : Released) (t : GroupState) → RepliesSo o s (on_released i name r t).reply
 released-replies i o s name Freed t = tt
@@ -168,7 +176,7 @@ lock-replies i call name (lock.Release session) s = released-replies i (op.Lock 
 abbrev pub SemPlain : SemOutcome → Type 0
 SemPlain (semaphore.Done a) = IsPlain a
 SemPlain semaphore.Wants = Unit {0}
-SemPlain (semaphore.Served a) = IsPlain a
+SemPlain (semaphore.Served a available) = IsPlain a
 
 step-plain : (key : Object) (l : SemOp) (row : Option SemaphoreRow) (s : Semaphores) → SemPlain (sem_step_on key l row s).outcome
 step-plain key sem.Available None s = tt
@@ -200,7 +208,7 @@ module _ (o : Op) (s : GroupState) (call : Invocation) (key : Object) where
   on_sem-replies : (l : SemOp) (r : SemOutcome) (t u : GroupState) → ((session n : ℕ) (x : Wish) → l ≡ sem.Acquire session n x → wish_in o ≡ Some x) → SemPlain r → RepliesSo o s (on_sem key (sem_wait call key l t) r u).reply
   on_sem-replies l (semaphore.Done a) t u h p = of-plain o s a p
   on_sem-replies l semaphore.Wants t u h p = sem_wait-replies l t h
-  on_sem-replies l (semaphore.Served a) t u h p = of-plain o s a p
+  on_sem-replies l (semaphore.Served a available) t u h p = of-plain o s a p
 
   sem-replies : (l : SemOp) → ((session n : ℕ) (x : Wish) → l ≡ sem.Acquire session n x → wish_in o ≡ Some x) → RepliesSo o s (sem_rule call key l s).reply
   sem-replies l h = either (λ (r : Outcome). RepliesSo o s r.reply) (is_behind key l s) _ _ (sem_wait-replies l s h)
