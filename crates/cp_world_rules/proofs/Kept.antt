@@ -21,7 +21,7 @@ use Rattle.cp_group_state.specs.Apply.{Applied, run}
 use Rattle.cp_group_state.specs.History.{Given, IsOrderly, answers_of, given_from}
 use Rattle.cp_group_state.proofs.Once.{acts-once}
 use Rattle.cp_group_state.proofs.Fences.{fences-rise}
-use Rattle.cp_group_state.proofs.Answered.{fences-stand}
+use Rattle.cp_group_state.proofs.Holds.{fences-stand}
 use Rattle.cp_group_causes.proofs.Lists.{map-in, mapped}
 use Rattle.cp_group_causes.proofs.Caused.{have-causes}
 use Rattle.cp_world_rules.specs.Rows.{Committed, End, Request, entries_of}

@@ -5,12 +5,9 @@ use Rattle.cp_events.specs.declared.effects.Effects.{Effects}
 use Rattle.cp_events.specs.declared.effects.Return.{Return}
 use Rattle.cp_events.specs.declared.plan.Plan.{Plan}
 use Rattle.cp_events.specs.declared.schedule.Schedule.{Schedule}
-use Rattle.cp_group_state.specs.Apply.{run}
 use Rattle.cp_group_state.specs.Fences.{FencesRise, FencesStand}
-use Rattle.cp_group_state.specs.GroupState.{empty}
 use Rattle.cp_group_state.specs.History.{IsOrderly}
 use Rattle.cp_group_state.specs.Repeats.{ActsAtMostOnce}
-use Rattle.std.specs.Prelude.{[]}
 use Rattle.cp_world_rules.specs.Rows.{Committed, End, Request, committed_of, entries_of}
 use Rattle.cp_world_rules.specs.Execution.{Execution, events_of}
 use Rattle.cp_world_rules.specs.Promises.{IsAnswerOfHistory, IsBeat, IsEntryOfRequest, IsExplained, IsInRealTime, IsRequestOfCall}
@@ -34,7 +31,7 @@ pub record Headline (plan : Plan) (x : Execution) : Type 0 where
   pub at_most_once : ActsAtMostOnce (entries_of x.history)
   -- fences rise, and each that is answered is that of a hold
   pub fences : FencesRise (entries_of x.history)
-  pub fences_stand : FencesStand (entries_of x.history) [] (run 1 (entries_of x.history) empty)
+  pub fences_stand : FencesStand (entries_of x.history)
 
 -- Without members each event of the schedule stands printed, in its order, and each request is committed once, in its own
 -- event.
