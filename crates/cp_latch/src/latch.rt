@@ -19,6 +19,7 @@ pub struct Latch {
 
 impl Model for Latch {
     ghost use Rattle.std.specs.Prelude.{◌≤◌, ◌^◌};
+    ghost use Rattle.cp_base.specs.declared.limits.TheConstants.{LAST_NUMBER};
     ghost use Rattle.cp_group_state.specs.declared.rows.LatchRow.{LatchRow};
 
     ghost Value = { LatchRow };
