@@ -20,7 +20,7 @@ use cp_events::{Ending, Opened, Plan, Return};
 use cp_rows::put_row;
 
 /// What an answer lets a call do.
-#[derive(Clone, Copy, Debug, PartialEq, Eq)]
+#[derive(Clone, Copy)]
 pub enum Next {
     /// It goes on with this session.
     WithSession(u64),

@@ -10,7 +10,7 @@ use cp_events::{
 use cp_ops::{GroupOp, LatchOp, LockOp, LongOp, Op, RefOp, SemOp, SessionOp, Wish};
 
 /// What a call needs before it can be asked.
-#[derive(Debug, Drop)]
+#[derive(Drop)]
 pub enum Need {
     Nothing,
     /// The session in which the thread holds the lock of this name, else the client's.

@@ -8,7 +8,7 @@ use cp_client_rules::{Pending, Purpose, Task};
 use cp_events::UserOp;
 
 /// A call that a thread has begun.
-#[derive(Debug, Drop)]
+#[derive(Drop)]
 pub struct Call {
     pub thread: ThreadNo,
     /// The group that it goes to.

@@ -21,7 +21,7 @@ use std::collections::BTreeMap;
 pub type LockKey = (u8, u64, Name);
 
 /// What an answer to a call on a lock does to the thread's record of the lock.
-#[derive(Clone, Copy, Debug, PartialEq, Eq)]
+#[derive(Clone, Copy)]
 pub enum Change {
     /// One hold more.
     Raises,

@@ -9,7 +9,7 @@ use std::alloc::Global;
 use std::marker::Model;
 
 /// A request that begins, which contracts see as the definitions' request.
-#[derive(Debug, Drop)]
+#[derive(Drop)]
 pub struct Asked {
     pub group: GroupId,
     pub call: Invocation,
@@ -36,7 +36,7 @@ impl Asked {
 
 /// What the steps of a client gave so far: the requests that began, the sessions that it opened, and the calls that
 /// returned.
-#[derive(Debug, Drop)]
+#[derive(Drop)]
 pub struct ClientOut {
     pub asked: Items<Asked>,
     pub opened: Items<Opened>,

@@ -7,7 +7,7 @@ use cp_group_state::Waiter;
 use cp_ops::Answer;
 
 /// How waits end.
-#[derive(Clone, Copy, Debug, PartialEq, Eq)]
+#[derive(Clone, Copy)]
 pub enum Ending {
     /// The semaphore gave what was wanted.
     Served,

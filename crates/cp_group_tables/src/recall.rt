@@ -12,7 +12,7 @@ use cp_ops::Answer;
 use cp_remembered::Memory;
 
 /// What is remembered of a call.
-#[derive(Debug, Drop)]
+#[derive(Drop)]
 pub enum Recall {
     /// Nothing: the thread's calls so far have lower numbers.
     New,

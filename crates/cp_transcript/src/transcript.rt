@@ -19,7 +19,7 @@ const END: &[u8] = b"end\n";
 
 /// The lines so far: those of the events, and those of the history of the group `default`, which come behind them at the
 /// end.
-#[derive(Debug, Drop)]
+#[derive(Drop)]
 pub struct TranscriptWriter {
     pub text: Vec<u8>,
     /// How many lines the history has.

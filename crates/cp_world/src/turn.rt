@@ -7,7 +7,7 @@ use cp_ops::Entry;
 use std::alloc::Global;
 
 /// What an event shows besides itself, and the entries that it committed.
-#[derive(Debug, Drop)]
+#[derive(Drop)]
 pub struct Turn {
     /// The event's number.
     pub number: u64,
