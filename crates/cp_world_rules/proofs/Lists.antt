@@ -61,6 +61,15 @@ get-append {X} (x ∷ xs) ys (suc j) a h = at (get-append xs ys j a h) where
   at (inl r) = let l = r.1 in inl (r.0, omega (arith, l))
   at (inr r) = let e = r.1 in inr (r.0, omega (arith, e), r.2)
 
+-- the one element of a list
+pub one-there : {X : Type 0} (x : X) (k : ℕ) (y : X) → slice_get (x ∷ []) k ≡ Some y → (k ≡ 0) × (x ≡ y)
+one-there {X} x zero y e = (refl, some e) where
+  some : Some x ≡ Some y → x ≡ y
+  some k = cc
+one-there {X} x (suc k) y e = absurd (no e) where
+  no : None ≡ Some y → ⊥
+  no f = cc
+
 -- an element that a list contains stands at a place
 pub get-some : {X : Type 0} (xs : List X) (x : X) → Contains xs x → (k : ℕ) × (slice_get xs k ≡ Some x)
 get-some [] x h = absurd (no-element x h)

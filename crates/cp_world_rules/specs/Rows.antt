@@ -17,16 +17,19 @@ pub record Committed : Type 0 where
   pub event : ℕ
   pub entry : Entry
 
--- a request that began
+-- A request that began, and one that an answer ended. The length is that of its group's history at that moment: so the order
+-- within one event is read off lengths.
 pub record Request : Type 0 where
   pub event : ℕ
+  pub length : ℕ
   pub group : GroupId
   pub call : Invocation
   pub op : Op
 
--- a request that an answer ended
 pub record End : Type 0 where
   pub event : ℕ
+  pub length : ℕ
+  pub group : GroupId
   pub call : Invocation
   pub answer : Answer
 

@@ -1,0 +1,320 @@
+-- Each wrong execution is refused, computed.
+use Rattle.std.proofs.Common.{◌≡◌, ℕ, ◌+◌, ◌<◌, ◌≤◌, ◌⊎◌, inl, inr, Bool, true, false, List, [], ◌∷◌, ◌++◌, Some, None, refl, sym, subst, ap, ◌∙◌, arith, length, map, zero, suc, le_refl}
+use Rattle.std.specs.Prelude.{Contains, slice_get, ℤ, pos, negsuc}
+use Rattle.std.proofs.lemmas.List.Elements.{Contains-push}
+use Rattle.cp_base.proofs.Tests.{no_false, no_true, none_some}
+use Rattle.cp_base.specs.declared.identifier.ClientId.{ClientId}
+use Rattle.cp_base.specs.declared.identifier.Invocation.{Invocation}
+use Rattle.cp_base.specs.declared.identifier.ThreadNo.{ThreadNo}
+use Rattle.cp_answers.specs.declared.answer.Answer.{Answer}
+use Rattle.cp_answers.specs.declared.answer.Answer.TheVariants as answer
+use Rattle.cp_answers.specs.declared.ended_by.EndedBy.TheVariants as ended_by
+use Rattle.cp_ops.specs.declared.entry.Entry.{Entry}
+use Rattle.cp_ops.specs.declared.entry.Entry.TheVariants as entry
+use Rattle.cp_object_ops.specs.declared.latch_op.LatchOp.TheVariants as latch
+use Rattle.cp_ops.specs.declared.op.Op.{Op}
+use Rattle.cp_ops.specs.declared.op.Op.TheVariants as op
+use Rattle.cp_ops.specs.declared.session_op.SessionOp.TheVariants as session
+use Rattle.cp_events.specs.declared.effects.Effects.{Effects}
+use Rattle.cp_events.specs.declared.effects.Ending.TheVariants as ending
+use Rattle.cp_base.specs.declared.identifier.ClientNo.{ClientNo}
+use Rattle.cp_events.specs.declared.effects.Ignored.TheVariants as ignored
+use Rattle.cp_events.specs.declared.effects.Return.{Return}
+use Rattle.cp_events.specs.declared.event.Event.{Event}
+use Rattle.cp_events.specs.declared.event.Event.TheVariants as event
+use Rattle.cp_events.specs.declared.schedule.Line.{Line}
+use Rattle.cp_events.specs.declared.schedule.Line.TheVariants as line
+use Rattle.cp_group_state.specs.Sessions.{is_open_for}
+use Rattle.cp_world_rules.specs.Orders.{state_before}
+use Rattle.cp_group_state.specs.History.{Given}
+use Rattle.cp_group_causes.proofs.Lists.{at-head, no-element, one-is, one-only}
+use Rattle.cp_client_rules.specs.Asking.{default_group, wish_of}
+use Rattle.cp_client_rules.specs.Calls.{patience}
+use Rattle.cp_world_rules.specs.Rows.{Called, Committed, End, Request, Returned, entries_of}
+use Rattle.cp_world_rules.specs.Execution.{Execution}
+use Rattle.cp_world_rules.specs.Requests.{IsBeat, IsCallOf, IsForItself, IsForNeed, IsRequestOfCall, MayAsk}
+use Rattle.cp_world_rules.specs.Entries.{IsOfRequest, IsOwnEntry}
+use Rattle.cp_world_rules.specs.Answers.{lets_go_on}
+use Rattle.cp_world_rules.specs.Returns.{IsTold, PassedDeadline, answered, at_once, clock_after, late, lost}
+use Rattle.cp_world_rules.specs.Telling.{IsReturnOf}
+use Rattle.cp_world_rules.specs.Prompt.{BeginsAtOnce, IsOver, ended, went_on}
+use Rattle.cp_world_rules.specs.Prompt as prompt
+use Rattle.cp_world_rules.specs.Headline.{Headline}
+use Rattle.cp_world_rules.specs.Wrong.{AreRefused, acquire, add, answers_at_will, answers_nobody, answers_too_early, answers_twice, asks, asks_as_if_nothing_stood, asks_for_an_older_call, asks_twice, call_of, client, closes_a_session_to_come, closes_anothers_session, commits_nothing, counts_wrongly, does_nothing, enters, ignores_a_client, ignores_an_idle_thread, ignores_and_returns, never_returns, enters_before_it_is_asked, enters_in_the_wrong_order, enters_unasked, forgets_a_call, get, gets, gives, gives_up_early, gives_up_for_an_older_call, gives_up_without_a_deadline, increments, invocation, is_told, keeps_an_answer, locks, makes, makes_a_call_up, one_client, one_is, opening, opens, returns_at_will, returns_by_an_older_request, returns_to_nobody, returns_twice, returns_what_it_needed, shows, skips_a_line, takes_a_number_twice, thread, zero_is}
+
+-- a return of client 1 and its thread 1
+abbrev row : ℕ → ℕ → Answer → Returned
+row number n a = record { event = number; client = client 1; what = record { thread = thread; number = n; ending = ending.Answered a } }
+
+-- a call that is the only one
+only-call : (x : Execution) (c : Called) (number : ℕ) → x.calls ≡ c ∷ [] → c.event ≤ number → IsCallOf x c.client c.thread number c
+only-call x c number e l = record {
+  began = subst (λ rows. Contains rows c) (sym e) (at-head c []);
+  client_is = refl;
+  thread_is = refl;
+  by_then = l;
+  latest = λ d there mine of_thread by. let same = ap (λ (z : Called). z.event) (one-is c d (subst (λ rows. Contains rows d) e there)) in omega (arith, same);
+}
+
+wrong_order : (lines : List Line) → Headline one_client lines enters_in_the_wrong_order → ⊥
+wrong_order lines h = let l = (h.histories default_group).rises 0 1 (enters 2 2 get) (enters 1 1 add) (omega arith) refl refl in absurd (omega (arith, l))
+
+session_to_come : (lines : List Line) → Headline one_client lines closes_a_session_to_come → ⊥
+session_to_come lines h = let l = (h.histories default_group).orderly.sessions 0 (entry.Call (invocation 1 1) (op.Session (session.Close 1))) 1 refl (at-head 1 []) in absurd (omega (arith, l))
+
+abbrev stood : List Entry
+stood = entry.Call (invocation 1 1) (op.Session session.Open) ∷ entry.Call (invocation 2 1) (op.Session (session.Close 1)) ∷ []
+
+anothers_session : (lines : List Line) → Headline one_client lines closes_anothers_session → ⊥
+anothers_session lines h = let o = (h.histories default_group).own_sessions 1 (invocation 2 1) (op.Session (session.Close 1)) 1 refl (at-head 1 []) in at o.moment o.before o.is_open where
+  at : (m : ℕ) → m ≤ 1 → is_open_for (state_before stood m).sessions 1 (invocation 2 1).client ≡ true → ⊥
+  at zero l e = no_false e
+  at (suc zero) l e = no_false e
+  at (suc (suc m)) l e = absurd (omega (arith, l))
+
+unasked : (lines : List Line) → Headline one_client lines enters_unasked → ⊥
+unasked lines h = at (h.entries default_group 0 (enters 1 1 get) refl) where
+  at : IsOfRequest enters_unasked default_group 0 (enters 1 1 get) ⊎ IsOwnEntry one_client default_group (entry.Call (invocation 1 1) get) → ⊥
+  at (inl r) = no-element r.request r.began
+  at (inr x) = x
+
+before_asked : (lines : List Line) → Headline one_client lines enters_before_it_is_asked → ⊥
+before_asked lines h = at (h.entries default_group 0 (enters 1 1 get) refl) where
+  at : IsOfRequest enters_before_it_is_asked default_group 0 (enters 1 1 get) ⊎ IsOwnEntry one_client default_group (entry.Call (invocation 1 1) get) → ⊥
+  at (inl r) = let e = ap (λ (z : Request). z.event) (one-is (asks 2 0 1 get) r.request r.began) in let l = r.begins_early in absurd (omega (arith, e, l))
+  at (inr x) = x
+
+lengths : (lines : List Line) → Headline one_client lines asks_as_if_nothing_stood → ⊥
+lengths lines h = let l = (h.lengths.requests (asks 2 0 2 get) (at-head (asks 2 0 2 get) [])).behind 0 (enters 1 1 get) refl (omega arith) in absurd (omega (arith, l))
+
+made_up : (lines : List Line) → Headline one_client lines makes_a_call_up → ⊥
+made_up lines h = none_some (h.calls.printed (makes 1 gets) (at-head (makes 1 gets) [])).stands
+
+forgotten : (lines : List Line) → Headline one_client lines forgets_a_call → ⊥
+forgotten lines h = let c = h.calls.noted 1 (client 1) thread gets (record { shown = shows 1 (call_of gets) [] (gives 1 zero_is ∷ []); stands = refl; event_is = refl; not_ignored = refl }) in no-element c.0 c.1
+
+older_call : (lines : List Line) → Headline one_client lines asks_for_an_older_call → ⊥
+older_call lines h = at (h.requests (asks 2 0 1 add) (at-head (asks 2 0 1 add) [])) where
+  may : MayAsk one_client gets add → ⊥
+  may (inl f) = not_get f.2 where
+    not_get : add ≡ get → ⊥
+    not_get e = cc
+  may (inr (inl f)) = no_false f.0
+  may (inr (inr f)) = not_round f.2 where
+    not_round : {name : List ℕ} → add ≡ op.Latch name latch.Round → ⊥
+    not_round e = cc
+
+  of : (c : Called) → IsRequestOfCall one_client asks_for_an_older_call (asks 2 0 1 add) c → (c ≡ makes 1 increments) ⊎ Contains (makes 2 gets ∷ []) c → ⊥
+  of c r (inl e) = let l = r.last.latest (makes 2 gets) (there) (sym (ap (λ (z : Called). z.client) e)) (sym (ap (λ (z : Called). z.thread) e)) (omega arith) in let k = ap (λ (z : Called). z.event) e in absurd (omega (arith, l, k)) where
+    there : Contains (makes 1 increments ∷ makes 2 gets ∷ []) (makes 2 gets)
+    there = Contains-push (makes 1 increments ∷ []) (makes 2 gets)
+  of c r (inr t) = may (subst (λ (z : Called). MayAsk one_client z.op add) (one-is (makes 2 gets) c t) r.asks)
+
+  beat : {s : ℕ} → add ≡ op.Session (session.Beat s) → ⊥
+  beat e = cc
+
+  at : ((c : Called) × IsRequestOfCall one_client asks_for_an_older_call (asks 2 0 1 add) c) ⊎ IsBeat asks_for_an_older_call (asks 2 0 1 add) → ⊥
+  at (inl r) = of r.0 r.1 (one-only (makes 1 increments) r.0 (makes 2 gets ∷ []) r.1.last.began)
+  at (inr b) = beat b.asks
+
+asked_twice : (lines : List Line) → Headline one_client lines asks_twice → ⊥
+asked_twice lines h = let e = h.itself_once 0 1 (asks 1 0 1 add) (asks 1 1 2 add) (makes 1 increments) refl refl (of (asks 1 0 1 add) refl refl refl refl) (of (asks 1 1 2 add) refl refl refl refl) (0, 0, refl) (0, 0, refl) in absurd (omega (arith, e)) where
+  of : (q : Request) → q.event ≡ 1 → q.call.client ≡ (invocation 1 1).client → q.call.thread ≡ thread → q.op ≡ add → IsRequestOfCall one_client asks_twice q (makes 1 increments)
+  of q at mine of_thread is = record { last = only-call asks_twice (makes 1 increments) q.event refl (omega (arith, at)); by_client = mine; by_thread = of_thread; asks = inl (0, 0, is) }
+
+number_twice : (lines : List Line) → Headline one_client lines takes_a_number_twice → ⊥
+number_twice lines h = let e = h.numbers 0 1 (asks 1 0 1 get) (asks 2 1 1 get) refl refl refl in absurd (omega (arith, e))
+
+nobody : (lines : List Line) → Headline one_client lines answers_nobody → ⊥
+nobody lines h = let a = h.answers (is_told 1 1 2 zero_is) (at-head (is_told 1 1 2 zero_is) []) in
+    let e = ap (λ (z : Request). z.call.number) (one-is (asks 1 0 1 get) a.request a.began) in let k = ap (λ (z : Invocation). z.number) a.call_is in absurd (omega (arith, e, k))
+
+value-of : Answer → ℤ
+value-of (answer.Value v) = v
+value-of a = pos 0
+
+at_will : (lines : List Line) → Headline one_client lines answers_at_will → ⊥
+at_will lines h = let a = h.answers (is_told 1 1 1 one_is) (at-head (is_told 1 1 1 one_is) []) in
+    no (ap (λ (g : Given). value-of g.answer) (one-is (record { index = 1; call = invocation 1 1; answer = zero_is }) (record { index = a.index; call = invocation 1 1; answer = one_is }) a.given))
+  where
+    no : pos 1 ≡ pos 0 → ⊥
+    no e = cc
+
+too_early : (lines : List Line) → Headline one_client lines answers_too_early → ⊥
+too_early lines h = let a = h.answers (is_told 1 0 1 zero_is) (at-head (is_told 1 0 1 zero_is) []) in let k = a.begins_first in let l = a.own_first in let m = a.ends_last in absurd (omega (arith, k, l, m))
+
+answered_twice : (lines : List Line) → Headline one_client lines answers_twice → ⊥
+answered_twice lines h = let e = h.ends_once 0 1 (is_told 1 1 1 zero_is) (is_told 1 1 1 zero_is) refl refl refl in absurd (omega (arith, e))
+
+returned_twice : (lines : List Line) → Headline one_client lines returns_twice → ⊥
+returned_twice lines h = let c = only-call returns_twice (makes 1 gets) 1 refl (le_refl 1) in let e = h.returns_once.once 0 1 (row 1 1 zero_is) (row 1 1 zero_is) (makes 1 gets) refl refl c c in absurd (omega (arith, e))
+
+to_nobody : (lines : List Line) → Headline one_client lines returns_to_nobody → ⊥
+to_nobody lines h = let c = h.returns_once.of_call (row 1 1 zero_is) (at-head (row 1 1 zero_is) []) in no-element c.0 c.1.began
+
+older_request : (lines : List Line) → Headline one_client lines returns_by_an_older_request → ⊥
+older_request lines h = let c = h.returns_once.of_call (row 1 1 (answer.Session 1)) (at-head (row 1 1 (answer.Session 1)) []) in
+    let l = c.2.greatest (asks 1 1 2 (acquire 1)) there (subst (IsRequestOfCall one_client returns_by_an_older_request (asks 1 1 2 (acquire 1))) (sym (one-is (makes 1 locks) c.0 c.1.began)) of) in absurd (omega (arith, l))
+  where
+    there : Contains (asks 1 0 1 (op.Session session.Open) ∷ asks 1 1 2 (acquire 1) ∷ []) (asks 1 1 2 (acquire 1))
+    there = Contains-push (asks 1 0 1 (op.Session session.Open) ∷ []) (asks 1 1 2 (acquire 1))
+
+    of : IsRequestOfCall one_client returns_by_an_older_request (asks 1 1 2 (acquire 1)) (makes 1 locks)
+    of = record { last = only-call returns_by_an_older_request (makes 1 locks) 1 refl (le_refl 1); by_client = refl; by_thread = refl; asks = inl (1, 0, refl) }
+
+answered-is : {a b : Answer} → ending.Answered a ≡ ending.Answered b → a ≡ b
+answered-is e = cc
+
+session-lost : {s : ℕ} → ending.Answered (answer.Session s) ≡ ending.Answered answer.OwnershipLost → ⊥
+session-lost e = cc
+
+session-ok : {s : ℕ} → ending.Answered (answer.Session s) ≡ ending.Answered answer.Ok → ⊥
+session-ok e = cc
+
+session-late : {s : ℕ} → ending.Answered (answer.Session s) ≡ ending.Answered (answer.Indeterminate ended_by.Deadline) → ⊥
+session-late e = cc
+
+needed : (lines : List Line) → Headline one_client lines returns_what_it_needed → ⊥
+needed lines h = at (h.returns (row 1 1 (answer.Session 1)) (at-head (row 1 1 (answer.Session 1)) [])) where
+  at : IsTold one_client returns_what_it_needed (row 1 1 (answer.Session 1)) → ⊥
+  at (answered a e t) = no_true (subst (λ (z : Request). lets_go_on z.op (answer.Session 1) ≡ false) (one-is (asks 1 0 1 (op.Session session.Open)) t.here.request t.here.began) (subst (λ x. lets_go_on t.here.request.op x ≡ false) (sym (answered-is e)) t.last))
+  at (lost e t) = session-lost e
+  at (at_once e t) = session-ok e
+  at (late e t) = session-late e
+
+value-lost : {v : ℤ} → ending.Answered (answer.Value v) ≡ ending.Answered answer.OwnershipLost → ⊥
+value-lost e = cc
+
+value-ok : {v : ℤ} → ending.Answered (answer.Value v) ≡ ending.Answered answer.Ok → ⊥
+value-ok e = cc
+
+value-late : {v : ℤ} → ending.Answered (answer.Value v) ≡ ending.Answered (answer.Indeterminate ended_by.Deadline) → ⊥
+value-late e = cc
+
+untold : (lines : List Line) → Headline one_client lines returns_at_will → ⊥
+untold lines h = at (h.returns (row 1 1 zero_is) (at-head (row 1 1 zero_is) [])) where
+  at : IsTold one_client returns_at_will (row 1 1 zero_is) → ⊥
+  at (answered a e t) = no-element t.here.end t.here.ended
+  at (lost e t) = value-lost e
+  at (at_once e t) = value-ok e
+  at (late e t) = value-late e
+
+-- calls that are given up
+abbrev late_row : ℕ → ℕ → Returned
+late_row number n = row number n (answer.Indeterminate ended_by.Deadline)
+
+late-lost : ending.Answered (answer.Indeterminate ended_by.Deadline) ≡ ending.Answered answer.OwnershipLost → ⊥
+late-lost e = cc
+
+late-ok : ending.Answered (answer.Indeterminate ended_by.Deadline) ≡ ending.Answered answer.Ok → ⊥
+late-ok e = cc
+
+-- where no request ended, only a deadline can be told
+only-late : (x : Execution) (number n : ℕ) → x.ends ≡ [] → (PassedDeadline one_client x (late_row number n) → ⊥) → IsTold one_client x (late_row number n) → ⊥
+only-late x number n none no (answered a e t) = no-element t.here.end (subst (λ rows. Contains rows t.here.end) none t.here.ended)
+only-late x number n none no (lost e t) = late-lost e
+only-late x number n none no (at_once e t) = late-ok e
+only-late x number n none no (late e t) = no t
+
+early : (lines : List Line) → Headline one_client lines gives_up_early → ⊥
+early lines h = only-late gives_up_early 2 1 refl no (h.returns (late_row 2 1) (at-head (late_row 2 1) [])) where
+  no : PassedDeadline one_client gives_up_early (late_row 2 1) → ⊥
+  no p = let l = subst (λ (z : Called). clock_after (client 1) z.event gives_up_early.effects + patience + p.wish ≤ clock_after (client 1) 2 gives_up_early.effects) (one-is (makes 1 gets) p.call p.call_is.began) p.passed in absurd (short p.wish l) where
+    short : (wish : ℕ) → 0 + 60000 + wish ≤ 59999 → ⊥
+    short wish l = absurd (omega (arith, l))
+
+older_deadline : (lines : List Line) → Headline one_client lines gives_up_for_an_older_call → ⊥
+older_deadline lines h = only-late gives_up_for_an_older_call 4 2 refl no (h.returns (late_row 4 2) (at-head (late_row 4 2) [])) where
+  short : (wish : ℕ) → 59999 + 60000 + wish ≤ 60000 → ⊥
+  short wish l = absurd (omega (arith, l))
+
+  by : (p : PassedDeadline one_client gives_up_for_an_older_call (late_row 4 2)) → (p.call ≡ makes 1 gets) ⊎ Contains (makes 3 gets ∷ []) p.call → ⊥
+  by p (inl e) = let l = p.call_is.latest (makes 3 gets) (Contains-push (makes 1 gets ∷ []) (makes 3 gets)) refl refl (omega arith) in let k = ap (λ (z : Called). z.event) e in absurd (omega (arith, l, k))
+  by p (inr t) = short p.wish (subst (λ (z : Called). clock_after (client 1) z.event gives_up_for_an_older_call.effects + patience + p.wish ≤ clock_after (client 1) 4 gives_up_for_an_older_call.effects) (one-is (makes 3 gets) p.call t) p.passed)
+
+  no : PassedDeadline one_client gives_up_for_an_older_call (late_row 4 2) → ⊥
+  no p = by p (one-only (makes 1 gets) p.call (makes 3 gets ∷ []) p.call_is.began)
+
+no_deadline : (lines : List Line) → Headline one_client lines gives_up_without_a_deadline → ⊥
+no_deadline lines h = only-late gives_up_without_a_deadline 2 1 refl no (h.returns (late_row 2 1) (at-head (late_row 2 1) [])) where
+  no : PassedDeadline one_client gives_up_without_a_deadline (late_row 2 1) → ⊥
+  no p = none_some (subst (λ (z : Called). wish_of z.op ≡ Some p.wish) (one-is (makes 1 locks) p.call p.call_is.began) p.bounded)
+
+skipped : Headline one_client (line.One (call_of gets) ∷ []) skips_a_line → ⊥
+skipped h = let f = h.follows in let e = ap (λ (rows : List Event). length rows) f.1 in let k = ap (λ (rows : List Event). length rows) f.2.1 in absurd (omega (arith, e, k))
+
+counted : (lines : List Line) → Headline one_client lines counts_wrongly → ⊥
+counted lines h = let e = h.events.numbers 1 (shows 2 (call_of gets) [] (gives 1 zero_is ∷ [])) refl in absurd (omega (arith, e))
+
+abbrev not_shown : Effects
+not_shown = record { number = 1; event = call_of gets; ignored = Some ignored.NoSuchClient; opened = []; returns = gives 1 zero_is ∷ [] }
+
+not_quiet : (lines : List Line) → Headline one_client lines ignores_and_returns → ⊥
+not_quiet lines h = let q = h.events.quiet not_shown ignored.NoSuchClient (Contains-push (opening ∷ []) not_shown) refl in let e = ap (λ (rows : List (ClientNo × Return)). length rows) q.1 in absurd (omega (arith, e))
+
+not_returned : (lines : List Line) → Headline one_client lines never_returns → ⊥
+not_returned lines h = at (h.events.returned (asks 1 0 1 get) (is_told 1 1 1 zero_is) (at-head (asks 1 0 1 get) []) (at-head (is_told 1 1 1 zero_is) []) refl refl) where
+  no : {s : ℕ} → get ≡ op.Session (session.Beat s) → ⊥
+  no e = cc
+
+  at : IsBeat never_returns (asks 1 0 1 get) ⊎ IsReturnOf never_returns (is_told 1 1 1 zero_is) → ⊥
+  at (inl b) = no b.asks
+  at (inr r) = no-element r.told r.printed
+
+ignored_client : (lines : List Line) → Headline one_client lines ignores_a_client → ⊥
+ignored_client lines h = no_true ((h.prompt refl).ignored 1 (record { number = 1; event = call_of gets; ignored = Some ignored.NoSuchClient; opened = []; returns = [] }) refl)
+
+ignored_thread : (lines : List Line) → Headline one_client lines ignores_an_idle_thread → ⊥
+ignored_thread lines h = let b = (h.prompt refl).ignored 1 (record { number = 1; event = call_of gets; ignored = Some (ignored.ThreadBusy 1); opened = []; returns = [] }) refl in no-element b.1.request b.1.began
+
+nothing : (lines : List Line) → Headline one_client lines does_nothing → ⊥
+nothing lines h = at ((h.prompt refl).begins (makes 1 gets) (at-head (makes 1 gets) [])) where
+  at : BeginsAtOnce does_nothing (makes 1 gets) → ⊥
+  at (inl q) = no-element q.0 q.1
+  at (inr r) = no-element r.0 r.1
+
+not_committed : (lines : List Line) → Headline one_client lines commits_nothing → ⊥
+not_committed lines h = let e = ap (λ (rows : List Committed). length rows) (h.prompt refl).committed in absurd (omega (arith, e))
+
+kept : (lines : List Line) → Headline one_client lines keeps_an_answer → ⊥
+kept lines h = at ((h.prompt refl).answered (record { index = 1; call = invocation 1 1; answer = zero_is }) (enters 1 1 get) (at-head (record { index = 1; call = invocation 1 1; answer = zero_is }) []) (0, refl, refl)) where
+  at : IsOver keeps_an_answer 1 (invocation 1 1) → ⊥
+  at (ended e there same l) = no-element e there
+  at (prompt.returned r there same l) = no-element r there
+  at (went_on q there own mine of_thread less l) = let e = ap (λ (z : ThreadNo). z.0) own in absurd (omega (arith, e))
+
+pub are-refused : AreRefused
+are-refused = record {
+  wrong_order = wrong_order;
+  session_to_come = session_to_come;
+  anothers_session = anothers_session;
+  unasked = unasked;
+  before_asked = before_asked;
+  lengths = lengths;
+  made_up = made_up;
+  forgotten = forgotten;
+  older_call = older_call;
+  asked_twice = asked_twice;
+  number_twice = number_twice;
+  nobody = nobody;
+  at_will = at_will;
+  too_early = too_early;
+  answered_twice = answered_twice;
+  returned_twice = returned_twice;
+  to_nobody = to_nobody;
+  older_request = older_request;
+  needed = needed;
+  untold = untold;
+  early = early;
+  older_deadline = older_deadline;
+  no_deadline = no_deadline;
+  skipped = skipped;
+  counted = counted;
+  not_quiet = not_quiet;
+  not_returned = not_returned;
+  ignored_client = ignored_client;
+  ignored_thread = ignored_thread;
+  nothing = nothing;
+  not_committed = not_committed;
+  kept = kept;
+}

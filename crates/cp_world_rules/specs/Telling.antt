@@ -1,0 +1,53 @@
+-- What is printed of an event is what it did.
+use Rattle.std.specs.Prelude.{◌≡◌, ◌≤◌, ◌<◌, ◌+◌, ◌++◌, ◌⊎◌, ℕ, Bool, true, false, not, ◌&&◌, List, [], ◌∷◌, length, map, Option, Some, None, nat_lt, slice_get, Contains}
+use Rattle.cp_base.specs.declared.limits.TheConstants.{LAST_NUMBER}
+use Rattle.cp_base.specs.Identifiers.{replay_id}
+use Rattle.cp_base.specs.declared.identifier.ClientNo.{ClientNo}
+use Rattle.cp_base.specs.declared.identifier.ThreadNo.{ThreadNo}
+use Rattle.cp_answers.specs.declared.answer.Answer.TheVariants as answer
+use Rattle.cp_ops.specs.declared.op.Op.TheVariants as op
+use Rattle.cp_ops.specs.declared.session_op.SessionOp.TheVariants as session
+use Rattle.cp_events.specs.declared.effects.Effects.{Effects}
+use Rattle.cp_events.specs.declared.effects.Ignored.{Ignored}
+use Rattle.cp_events.specs.declared.effects.Ignored.TheVariants as ignored
+use Rattle.cp_events.specs.declared.effects.Opened.{Opened}
+use Rattle.cp_events.specs.declared.event.Event.{Event}
+use Rattle.cp_events.specs.declared.event.Event.TheVariants as event
+use Rattle.cp_events.specs.declared.plan.Plan.{Plan}
+use Rattle.cp_events.specs.declared.schedule.Line.{Line}
+use Rattle.cp_events.specs.declared.schedule.Line.TheVariants as line
+use Rattle.cp_client_rules.specs.Ticks.{own_thread}
+use Rattle.cp_world_rules.specs.Rows.{Called, End, Request, Returned}
+use Rattle.cp_world_rules.specs.Execution.{Execution, returns_in}
+use Rattle.cp_world_rules.specs.Requests.{IsBeat}
+use Rattle.cp_world_rules.specs.Answers.{lets_go_on}
+use Rattle.cp_world_rules.specs.Returns.{clock_after, request_of}
+
+abbrev pub IsDelivery : Event → Type 0
+IsDelivery (event.Deliver k) = Unit {0}
+IsDelivery e = ⊥
+
+-- The events that lines stand for: a `settle` line stands for at most so many deliveries.
+abbrev pub StandFor : List Line → List Event → Type 0
+StandFor [] events = events ≡ []
+StandFor (line.One e ∷ lines) events = (rest : List Event) × (events ≡ e ∷ rest) × StandFor lines rest
+StandFor (line.Settle n ∷ lines) events = (named : List Event) × (rest : List Event) × (events ≡ named ++ rest) × (length named ≤ n)
+    × ((e : Event) → Contains named e → IsDelivery e) × StandFor lines rest
+
+-- The events are those of the lines, behind event 0, which opens all members.
+abbrev pub FollowsLines : List Line → Execution → Type 0
+FollowsLines lines x = (events : List Event) × (map (λ (shown : Effects). shown.event) x.effects ≡ event.Open ∷ events) × StandFor lines events
+
+-- a return of the request that ended, in the same event
+pub record IsReturnOf (x : Execution) (e : End) : Type 0 where
+  pub told : Returned
+  pub printed : Contains (returns_in x.effects) told
+  pub here : told.event ≡ e.event
+  pub of_request : request_of told ≡ e.call
+
+pub record EventsTell (x : Execution) : Type 0 where
+  pub numbers : (number : ℕ) (shown : Effects) → slice_get x.effects number ≡ Some shown → shown.number ≡ number
+  -- an event that is ignored does nothing
+  pub quiet : (shown : Effects) (cause : Ignored) → Contains x.effects shown → shown.ignored ≡ Some cause → (shown.opened ≡ []) × (shown.returns ≡ [])
+  -- an answer that doesn't let its call go on is returned
+  pub returned : (q : Request) (e : End) → Contains x.requests q → Contains x.ends e → q.call ≡ e.call → lets_go_on q.op e.answer ≡ false → IsBeat x q ⊎ IsReturnOf x e
