@@ -62,7 +62,7 @@ module _ (plan : Plan) where
   mid-now : (w : World) (me : ClientNo) → Desked plan w → Mid plan w me (book_of w) (client_at w me)
   mid-now w me h = record { book = h.book; mine = h.threads me; others = λ x t off. h.threads x t }
 
-  note-client : (w : World) (me : ClientNo) (d : Did) (P : ClientNo → Client → Type 0) → P me d.client → ((x : ClientNo) → (x ≡ me → ⊥) → P x (client_at w x)) → (x : ClientNo) → P x (client_at (note me d w) x)
+  pub note-client : (w : World) (me : ClientNo) (d : Did) (P : ClientNo → Client → Type 0) → P me d.client → ((x : ClientNo) → (x ≡ me → ⊥) → P x (client_at w x)) → (x : ClientNo) → P x (client_at (note me d w) x)
   note-client w me d P mine others x = by (is_at (nat_cmp x.0) me.0) refl where
     by : (b : Bool) → is_at (nat_cmp x.0) me.0 ≡ b → P x (client_at (note me d w) x)
     by true e = let same : x ≡ me = ap (λ n. record { 0 = n }) (number_key.same x.0 me.0 (equal_is _ e)) in

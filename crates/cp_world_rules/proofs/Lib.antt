@@ -19,6 +19,8 @@ pub mod Runs
 pub mod Begun
 pub mod Quiet
 pub mod Desked
+pub mod Served
+pub mod Told
 pub mod Orders
 pub mod Judged
 pub mod Handed

@@ -98,7 +98,7 @@ module _ (plan : Plan) where
       (λ a h. let g = good.queue a h in record { answered = g.answered; fits = g.fits })
 
   -- a call's row, or a clock's
-  called-good : (c : Called) (w : World) → Good plan w → Good plan (record w { calls = w.calls ++ c ∷ [] })
+  pub called-good : (c : Called) (w : World) → Good plan w → Good plan (record w { calls = w.calls ++ c ∷ [] })
   called-good c w good = let v = record w { calls = w.calls ++ c ∷ [] } in
       let more : Extends (ledger_of w) (ledger_of (record w { calls = w.calls ++ c ∷ [] })) = record { history = λ s client h. h; requests = λ r h. h; ends = λ x h. h; calls = λ x h. Contains-append_left w.calls (c ∷ []) x h; moves = λ x h. h; now = le_refl w.shown.number } in
       record {
@@ -123,7 +123,7 @@ module _ (plan : Plan) where
         all_returned = good.all_returned;
       }
 
-  moved-good : (m : Moved) (w : World) → Good plan w → Good plan (record w { moves = w.moves ++ m ∷ [] })
+  pub moved-good : (m : Moved) (w : World) → Good plan w → Good plan (record w { moves = w.moves ++ m ∷ [] })
   moved-good m w good = let more : Extends (ledger_of w) (ledger_of (record w { moves = w.moves ++ m ∷ [] })) = record { history = λ s client h. h; requests = λ r h. h; ends = λ x h. h; calls = λ x h. h; moves = λ x h. Contains-append_left w.moves (m ∷ []) x h; now = le_refl w.shown.number } in
       record {
         state = good.state;

@@ -145,7 +145,7 @@ with-threads : (g : GroupId) (s : ℕ) (c : Client) → (with_session g s c).thr
 with-threads g s c = either (λ (x : Client). x.threads ≡ c.threads) (has_session g s c) _ _ refl refl
 
 -- a call that an answer ends returns with it, or with the loss of ownership
-abbrev Said : Answer → Answer → Type 0
+abbrev pub Said : Answer → Answer → Type 0
 Said y x = (y ≡ x) ⊎ (y ≡ answer.OwnershipLost)
 
 expired-says : (key : LockKey) (n : ℕ) (o : Option HoldRecord) (holds : Holds) → Said (expired key (answer.SessionExpired n) o holds).answer (answer.SessionExpired n)
@@ -156,7 +156,7 @@ held-says : (key : LockKey) (o : LockCall) (s : ℕ) (x : Answer) (holds : Holds
 held-says key o s (answer.SessionExpired n) holds = either (λ (r : Holding). Said r.answer (answer.SessionExpired n)) (is_owner o) _ _ (inl refl) (expired-says key n (find lock_cmp holds key) holds)
 held-says key o s x holds = inl refl
 
-holding-says : (t : ThreadNo) (g : GroupId) (o : UserOp) (p : Purpose) (x : Answer) (holds : Holds) → Said (holding t g o p x holds).answer x
+pub holding-says : (t : ThreadNo) (g : GroupId) (o : UserOp) (p : Purpose) (x : Answer) (holds : Holds) → Said (holding t g o p x holds).answer x
 holding-says t g (user.Lock object o) (purpose.ForItself s) x holds = held-says (t.0, g.0, object.name) o s x holds
 holding-says t g (user.Destroy which object) p x holds = inl refl
 holding-says t g o p x holds = inl refl

@@ -9,7 +9,7 @@ use Rattle.cp_events.specs.declared.schedule.Line.{Line}
 use Rattle.cp_events.specs.declared.schedule.Line.TheVariants as line
 use Rattle.cp_events.specs.declared.schedule.Schedule.{Schedule}
 use Rattle.cp_client_rules.specs.Asking.{default_group}
-use Rattle.cp_world_rules.specs.Rows.{Called, Committed, End, Request, Returned}
+use Rattle.cp_world_rules.specs.Rows.{Called, Committed, End, Opening, Request, Returned}
 use Rattle.cp_world_rules.specs.World.{World, new_world, world_step}
 
 -- What the transcript shows: what each event did, event 0 first, and the history of each group that has a committed entry. And
@@ -41,6 +41,11 @@ history x g = rows_of x.histories g
 abbrev pub returns_in : List Effects → List Returned
 returns_in [] = []
 returns_in (shown ∷ effects) = map (λ r. record { event = shown.number; client = r.0; what = r.1 }) shown.returns ++ returns_in effects
+
+-- the sessions that stand printed as opened, likewise
+abbrev pub openings_in : List Effects → List Opening
+openings_in [] = []
+openings_in (shown ∷ effects) = map (λ o. record { event = shown.number; client = o.0; what = o.1 }) shown.opened ++ openings_in effects
 
 -- The first message that no event has named yet. Without members no message is ever sent.
 abbrev pub first_unnamed : World → Option ℕ

@@ -1,6 +1,7 @@
 pub mod Rows
 pub mod World
 pub mod Execution
+pub mod Sessions
 pub mod Requests
 pub mod Orders
 pub mod Entries

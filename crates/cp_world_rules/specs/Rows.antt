@@ -8,6 +8,7 @@ use Rattle.cp_answers.specs.declared.answer.Answer.{Answer}
 use Rattle.cp_ops.specs.declared.entry.Entry.{Entry}
 use Rattle.cp_ops.specs.declared.entry.Entry.TheVariants as entry
 use Rattle.cp_ops.specs.declared.op.Op.{Op}
+use Rattle.cp_events.specs.declared.effects.Opened.{Opened}
 use Rattle.cp_events.specs.declared.effects.Return.{Return}
 use Rattle.cp_events.specs.declared.user_op.UserOp.{UserOp}
 use Rattle.cp_group_state.specs.History.{History}
@@ -53,6 +54,12 @@ pub record Returned : Type 0 where
   pub event : ℕ
   pub client : ClientNo
   pub what : Return
+
+-- a session that a client opened
+pub record Opening : Type 0 where
+  pub event : ℕ
+  pub client : ClientNo
+  pub what : Opened
 
 abbrev pub entries_of : List Committed → History
 entries_of history = map (λ c. c.entry) history
