@@ -40,18 +40,19 @@ use Rattle.cp_group_causes.specs.Moments.{SessionsAreOwn}
 use Rattle.cp_group_causes.proofs.Lists.{get-contains, map-in, mapped, no-element}
 use Rattle.cp_client_rules.specs.Asking.{default_group, op_of}
 use Rattle.cp_client_rules.specs.Calls.{patience}
-use Rattle.cp_world_rules.specs.Rows.{Called, Committed, End, Request, Returned, entries_of}
+use Rattle.cp_world_rules.specs.Rows.{Called, Committed, End, Opening, Request, Returned, entries_of}
 use Rattle.cp_world_rules.specs.World.{World, new_world, world_after, world_step}
-use Rattle.cp_world_rules.specs.Execution.{Execution, Outcomes, events_of, executed, execution_of, histories_of, history, line_after, lines_after, returns_in, rows_of, settles}
+use Rattle.cp_world_rules.specs.Execution.{Execution, Outcomes, events_of, executed, execution_of, histories_of, history, line_after, lines_after, openings_in, returns_in, rows_of, settles}
 use Rattle.cp_world_rules.specs.Requests.{AsksItselfOnce, CallsStand, EndsOnce, IsBeat, IsCallOf, IsCallOfReturn, IsForItself, IsLastNumber, IsRequestOfCall, MayAsk, ReturnsOnce, TookPlace}
-use Rattle.cp_world_rules.specs.Entries.{EntriesAreAsked, HistoryIsGood, IsLengthAt, IsOfRequest, IsOwnEntry, LengthsAreTrue, NamesOwnSessions}
+use Rattle.cp_world_rules.specs.Entries.{EntriesAreAsked, HistoriesStand, HistoryIsGood, IsLengthAt, IsOfRequest, IsOwnEntry, LengthsAreTrue, RowsAreInOrder}
 use Rattle.cp_world_rules.specs.Answers.{IsAnswered, IsCommittedAt, lets_go_on}
 use Rattle.cp_world_rules.specs.Returns.{IsTold, PassedDeadline, answered, at_once, clock_after, late, lost}
-use Rattle.cp_world_rules.specs.Telling.{EventsTell, FollowsLines, IsReturnOf, StandFor}
+use Rattle.cp_world_rules.specs.Telling.{EventsTell, FollowsLines, IsOpening, IsReturnOf, StandFor, StandsOpened}
+use Rattle.cp_world_rules.specs.Sessions.{TellsSession}
 use Rattle.cp_world_rules.specs.Prompt.{BeginsAtOnce, IsIgnoredSo, IsOver, IsPrompt, ended, went_on}
 use Rattle.cp_world_rules.specs.Prompt as prompt
 use Rattle.cp_world_rules.specs.Headline.{Headline}
-use Rattle.cp_world_rules.proofs.Lists.{entries-length, get-map, get-some}
+use Rattle.cp_world_rules.proofs.Lists.{entries-length, get-map, get-some, one-there}
 use Rattle.cp_world_rules.proofs.Ledgers.{IsSourced, ToldBy, by_call, by_clock, by_end, by_loss, ledger_of}
 use Rattle.cp_world_rules.proofs.GroupLaws.{prepares}
 use Rattle.cp_world_rules.proofs.Good.{AnsweredBy, Good, IsReturned, used-in}
@@ -67,6 +68,7 @@ use Rattle.cp_world_rules.proofs.Threads.{book_of, le-cases}
 use Rattle.cp_world_rules.proofs.Working.{itself-plain}
 use Rattle.cp_world_rules.proofs.Desked.{Sound, none-sound, runs-printed, runs-sound}
 use Rattle.cp_world_rules.proofs.Judged.{all-ignored}
+use Rattle.cp_world_rules.proofs.Told.{ClosesRight, Seen, all-seen}
 use Rattle.cp_world_rules.proofs.Handed.{Gone, OverBy, all-gone, ended_by, gone_on_by, returned_by}
 
 -- an answer of a step is one of the history
@@ -166,6 +168,16 @@ module _ (w : World) where
     at [] = refl
     at (c ∷ rows) = refl
 
+one-each : (rows : List Committed) → HistoriesStand (histories_of rows)
+one-each [] = record { apart = λ j k a b l at. absurd (none_some at); some = λ j a at. absurd (none_some at) }
+one-each (c ∷ rows) = record {
+  apart = λ j k a b l at_j at_k. let x = (one-there (default_group, c ∷ rows) j a at_j).0 in let y = (one-there (default_group, c ∷ rows) k b at_k).0 in absurd (omega (arith, x, y, l));
+  some = λ j a at e. let x = (one-there (default_group, c ∷ rows) j a at).1 in cons-none (ap (λ (h : GroupId × List Committed). h.1) x ∙ e);
+}
+  where
+    cons-none : c ∷ rows ≡ [] → ⊥
+    cons-none e = cc
+
 none-good : HistoryIsGood []
 none-good = record {
   rises = λ j k a b l at. absurd (none_some at);
@@ -189,7 +201,7 @@ lines-stand [] = refl
 lines-stand (line.Settle n ∷ lines) = ([], events_of lines, refl, omega arith, λ e h. absurd (no-element e h), lines-stand lines)
 lines-stand (line.One e ∷ lines) = (events_of lines, refl, lines-stand lines)
 
-module _ (plan : Plan) (events : List Event) (w : World) (sound : Sound plan w) (printed : Printed events w) (measured : Measured w) (quiet : AllQuiet w) (begun : AllBegun w) (ignoring : (number : ℕ) (shown : Effects) → slice_get w.effects number ≡ Some shown → IsIgnoredSo plan (executed w) number shown.event shown.ignored) (gone : Gone [] w) (over : w.queue ≡ []) where
+module _ (plan : Plan) (events : List Event) (w : World) (sound : Sound plan w) (seen : Seen w (openings_in w.effects)) (printed : Printed events w) (measured : Measured w) (quiet : AllQuiet w) (begun : AllBegun w) (ignoring : (number : ℕ) (shown : Effects) → slice_get w.effects number ≡ Some shown → IsIgnoredSo plan (executed w) number shown.event shown.ignored) (gone : Gone [] w) (over : w.queue ≡ []) where
   abbrev good : Good plan w
   good = sound.good
 
@@ -257,6 +269,12 @@ module _ (plan : Plan) (events : List Event) (w : World) (sound : Sound plan w) 
   lengths-true = record {
     requests = λ r h. let m = measured.requests r h in subst (λ rows. IsLengthAt rows r.event r.length) (sym (of-default r.group m.in_group)) m.length_is;
     ends = λ e h. let m = measured.ends e h in subst (λ rows. IsLengthAt rows e.event e.length) (sym (of-default e.group m.in_group)) m.length_is;
+  }
+
+  in-order : RowsAreInOrder (executed w)
+  in-order = record {
+    requests = λ j k a b l at_j at_k. let o = measured.requests_order j k a b l at_j at_k in (o.0, λ g. o.1);
+    ends = λ j k a b l at_j at_k. let o = measured.ends_order j k a b l at_j at_k in (o.0, λ g. o.1);
   }
 
   -- calls
@@ -422,6 +440,19 @@ module _ (plan : Plan) (events : List Event) (w : World) (sound : Sound plan w) 
           (subst (λ k. k + patience + wish ≤ clock_after m.client m.event w.effects) (printed.call_clocks c last.began) (subst (λ k. c.clock + patience + wish ≤ k) (printed.move_clocks m in_m) over))));
     }
 
+  no-going-ok : (o : Op) → lets_go_on o answer.Ok ≡ false
+  no-going-ok (op.Session session.Open) = refl
+  no-going-ok (op.Latch name latch.Round) = refl
+  no-going-ok o = refl
+
+  closed-told : (r : Returned) (name : Option (List ℕ)) → r.what.ending ≡ ending.Answered answer.Ok → TookPlace (executed w) r.event (event.Call r.client r.what.thread (user.CloseSession name)) → ClosesRight w r → Told r
+  closed-told r name ends took_place (inl x) = let q = good.ends x.0 x.1 in answered answer.Ok ends (record {
+    here = record { end = x.0; ended = x.1; here = x.2; call_is = x.3; request = q.entered.request; began = q.entered.begun; of_call = q.entered.mine ∙ x.3 };
+    answer_is = x.4;
+    last = no-going-ok q.entered.request.op;
+  })
+  closed-told r name ends took_place (inr x) = at_once ends (record { name = name; asked = took_place; before = x.0; behind = x.1; parts = x.2; later = x.3; taken = λ j s e at in_group tells. x.4 j s e at tells })
+
   told : (r : Returned) → Contains w.returns r → ToldBy (ledger_of w) r.event r.client r.what → Told r
   told r there (by_end e in_e at call ends q in_q of_q fin) = answered e.answer ends (record { here = record { end = e; ended = in_e; here = at; call_is = call; request = q; began = in_q; of_call = of_q ∙ call }; answer_is = refl; last = fin })
   told r there (by_loss e s name in_e at call expired lock f before ends) = lost ends (record {
@@ -444,14 +475,21 @@ module _ (plan : Plan) (events : List Event) (w : World) (sound : Sound plan w) 
     same_thread = ap (λ k. record { 0 = k }) f.by_thread ∙ ap (λ (z : Invocation). z.thread) (sym call);
     before = before;
   })
-  told r there (by_call c name in_c at mine thread is ends) = at_once ends (
-    name,
-    took r.event _ (subst (λ k. Stands w.effects k (event.Call r.client r.what.thread (user.CloseSession name))) at
-        (subst (λ me. Stands w.effects c.event (event.Call me r.what.thread (user.CloseSession name))) mine
-        (subst (λ t. Stands w.effects c.event (event.Call c.client t (user.CloseSession name))) thread
-        (subst (λ o. Stands w.effects c.event (event.Call c.client c.thread o)) is (printed.calls c in_c))))),
-  )
+  told r there (by_call c name in_c at mine thread is ends) = closed-told r name ends
+      (took r.event _ (subst (λ k. Stands w.effects k (event.Call r.client r.what.thread (user.CloseSession name))) at
+      (subst (λ me. Stands w.effects c.event (event.Call me r.what.thread (user.CloseSession name))) mine
+      (subst (λ t. Stands w.effects c.event (event.Call c.client t (user.CloseSession name))) thread
+      (subst (λ o. Stands w.effects c.event (event.Call c.client c.thread o)) is (printed.calls c in_c))))))
+      (seen.closes r there ends)
   told r there (by_clock c m wish in_c mine thread bounded moved at own by_now over ends) = let x = book.of_call r there in past-told r there ends x.0 x.1 x.2 x.3
+
+  -- sessions
+  is-opening : (o : Opening) → Contains (openings_in w.effects) o → IsOpening (executed w) o
+  is-opening o there = let x = seen.opened o there in (x.0, x.1, x.2, x.3, (measured.ends x.0 x.1).in_group ∙ sym x.4)
+
+  stands-opened : (client : ClientNo) (s : ℕ) (e : End) → Contains w.ends e → TellsSession w.requests (replay_id client) s e → StandsOpened (executed w) client s e
+  stands-opened client s e there tells = let x = seen.printed client s e there tells in
+      (x.0, x.1, x.2, x.3 ∙ ap (λ g. record { group = g; session = s }) (sym (measured.ends e there).in_group), x.4)
 
   -- an answer is returned
   returned : (q : Request) (e : End) → Contains w.requests q → Contains w.ends e → q.call ≡ e.call → lets_go_on q.op e.answer ≡ false → IsBeat (executed w) q ⊎ IsReturnOf (executed w) e
@@ -485,19 +523,21 @@ module _ (plan : Plan) (events : List Event) (w : World) (sound : Sound plan w) 
 
   pub headline-of : IsOrderly (entries_of w.history) → (lines : List Line) → events ≡ events_of lines → Headline plan lines (executed w)
   headline-of orderly lines same = record {
+    one_each = one-each w.history;
     histories = by-group w (λ g rows. HistoryIsGood rows) (history-good orderly) (λ g. none-good);
     entries = entries-asked;
     lengths = lengths-true;
+    order = in-order;
     calls = calls-stand;
     requests = sourced;
     itself_once = itself-once;
     numbers = good.distinct;
-    answers = answered-so orderly;
+    answers = λ e there. inl (answered-so orderly e there);
     ends_once = ends-once;
     returns_once = returns-once;
     returns = λ r h. let there = noted r h in told r there (good.returns r there);
     follows = (events, printed.events_are, subst (StandFor lines) (sym same) (lines-stand lines));
-    events = record { numbers = λ n shown h. printed.numbers n shown h; quiet = λ shown cause there is. quiet shown there cause is; returned = returned };
+    events = record { numbers = λ n shown h. printed.numbers n shown h; quiet = λ shown cause there is. quiet shown there cause is; returned = returned; opened = is-opening; told = stands-opened };
     prompt = λ none. record {
       events = printed.events_are ∙ ap (λ es. event.Open ∷ es) same;
       ignored = ignoring;
@@ -511,10 +551,10 @@ module _ (plan : Plan) (events : List Event) (w : World) (sound : Sound plan w) 
 pub headline-kept : (s : Schedule) (outcomes : Outcomes) → length (events_of s.lines) ≤ 2 ^ 61 → Headline s.plan s.lines (execution_of s outcomes)
 headline-kept s outcomes short = subst (λ w. Headline s.plan s.lines (executed w)) (sym (lines-same s.plan s.lines new_world)) (from (events_of s.lines) refl) where
   from : (events : List Event) → events ≡ events_of s.lines → Headline s.plan s.lines (executed (world_after s.plan new_world (events_of s.lines)))
-  from events same = let sound = runs-sound s.plan (events_of s.lines) in let printed = runs-printed s.plan (events_of s.lines) in
+  from events same = let sound = runs-sound s.plan (events_of s.lines) in let seen = all-seen s.plan (events_of s.lines) in let printed = runs-printed s.plan (events_of s.lines) in
       let measured = all-kept s.plan Measured measured-kept (events_of s.lines) (measured-first new_world refl refl refl) in
       let quiet = all-quiet s.plan (events_of s.lines) in let begun = all-begun s.plan (events_of s.lines) new_world (λ c h. absurd (no-element c h)) in
       let ignoring = all-ignored s.plan (events_of s.lines) (rests s.plan []) (none-sound s.plan) printed-none printed in
       let gone = all-gone s.plan (events_of s.lines) in let over = (rests s.plan (events_of s.lines)).queue in
-      headline-of s.plan (events_of s.lines) (world_after s.plan new_world (events_of s.lines)) sound printed measured quiet begun ignoring gone over
-      (is-orderly s.plan (events_of s.lines) (world_after s.plan new_world (events_of s.lines)) sound printed measured quiet begun ignoring gone over (settled s.plan (events_of s.lines)).1 short) s.lines refl
+      headline-of s.plan (events_of s.lines) (world_after s.plan new_world (events_of s.lines)) sound seen printed measured quiet begun ignoring gone over
+      (is-orderly s.plan (events_of s.lines) (world_after s.plan new_world (events_of s.lines)) sound seen printed measured quiet begun ignoring gone over (settled s.plan (events_of s.lines)).1 short) s.lines refl

@@ -1,5 +1,5 @@
 -- What is promised of the answers that end requests.
-use Rattle.std.specs.Prelude.{◌≡◌, ◌≤◌, ◌<◌, ◌+◌, ℕ, Bool, true, false, List, Some, slice_get, Contains}
+use Rattle.std.specs.Prelude.{◌≡◌, ◌≤◌, ◌<◌, ◌+◌, ◌⊎◌, ℕ, Bool, true, false, List, Some, slice_get, Contains}
 use Rattle.cp_answers.specs.declared.answer.Answer.{Answer}
 use Rattle.cp_answers.specs.declared.answer.Answer.TheVariants as answer
 use Rattle.cp_object_ops.specs.declared.latch_op.LatchOp.TheVariants as latch
@@ -7,6 +7,7 @@ use Rattle.cp_ops.specs.declared.entry.Entry.TheVariants as entry
 use Rattle.cp_ops.specs.declared.op.Op.{Op}
 use Rattle.cp_ops.specs.declared.op.Op.TheVariants as op
 use Rattle.cp_ops.specs.declared.session_op.SessionOp.TheVariants as session
+use Rattle.cp_events.specs.declared.plan.Plan.{Plan}
 use Rattle.cp_world_rules.specs.Orders.{IsGivenAt}
 use Rattle.cp_group_causes.specs.Causes.{HasCause}
 use Rattle.cp_world_rules.specs.Rows.{Committed, End, Request, entries_of}
@@ -39,6 +40,13 @@ pub record IsAnswered (x : Execution) (e : End) : Type 0 where
   pub begins_early : request.event ≤ own.event
   pub own_early : own.event ≤ giving.event
   pub ends_late : giving.event ≤ e.event
+
+-- Or it says that the group is destroyed, and comes from a member that ended the group. Without members there is none.
+abbrev pub IsOfEndedGroup : Plan → Execution → End → Type 0
+IsOfEndedGroup plan x e = ⊥
+
+abbrev pub AllAnswered : Plan → Execution → Type 0
+AllAnswered plan x = (e : End) → Contains x.ends e → IsAnswered x e ⊎ IsOfEndedGroup plan x e
 
 -- Whether an answer to what a call needs lets the call go on: a session where it asked for one, a round where it asked for that.
 abbrev pub lets_go_on : Op → Answer → Bool

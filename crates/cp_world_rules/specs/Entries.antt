@@ -1,5 +1,5 @@
 -- What is promised of the entries of a history.
-use Rattle.std.specs.Prelude.{◌≡◌, ◌≤◌, ◌<◌, ◌⊎◌, ℕ, List, [], ◌∷◌, Some, slice_get, Contains}
+use Rattle.std.specs.Prelude.{◌≡◌, ◌≤◌, ◌<◌, ◌⊎◌, ℕ, List, [], ◌∷◌, Some, length, slice_get, Contains}
 use Rattle.cp_base.specs.declared.identifier.GroupId.{GroupId}
 use Rattle.cp_base.specs.declared.identifier.Invocation.{Invocation}
 use Rattle.cp_ops.specs.declared.entry.Entry.{Entry}
@@ -39,13 +39,24 @@ NamesOwnSessions entries = (place : ℕ) (call : Invocation) (o : Op) (s : ℕ) 
     → Contains (sessions_in (entry.Call call o)) s → WasOpenFor entries place s call.client
 
 -- the history had this length at a moment of this event
-pub record IsLengthAt (rows : List Committed) (event length : ℕ) : Type 0 where
-  pub before : (place : ℕ) (c : Committed) → slice_get rows place ≡ Some c → place < length → c.event ≤ event
-  pub behind : (place : ℕ) (c : Committed) → slice_get rows place ≡ Some c → length ≤ place → event ≤ c.event
+pub record IsLengthAt (rows : List Committed) (event len : ℕ) : Type 0 where
+  pub within : len ≤ length rows
+  pub before : (place : ℕ) (c : Committed) → slice_get rows place ≡ Some c → place < len → c.event ≤ event
+  pub behind : (place : ℕ) (c : Committed) → slice_get rows place ≡ Some c → len ≤ place → event ≤ c.event
 
 pub record LengthsAreTrue (x : Execution) : Type 0 where
   pub requests : (r : Request) → Contains x.requests r → IsLengthAt (history x r.group) r.event r.length
   pub ends : (e : End) → Contains x.ends e → IsLengthAt (history x e.group) e.event e.length
+
+-- Requests, and their ends, are listed in the order of time.
+pub record RowsAreInOrder (x : Execution) : Type 0 where
+  pub requests : (j k : ℕ) (a b : Request) → j ≤ k → slice_get x.requests j ≡ Some a → slice_get x.requests k ≡ Some b → (a.event ≤ b.event) × (a.group ≡ b.group → a.length ≤ b.length)
+  pub ends : (j k : ℕ) (a b : End) → j ≤ k → slice_get x.ends j ≡ Some a → slice_get x.ends k ≡ Some b → (a.event ≤ b.event) × (a.group ≡ b.group → a.length ≤ b.length)
+
+-- A group has one history, which has an entry; histories stand in the order of their groups.
+pub record HistoriesStand (histories : List (GroupId × List Committed)) : Type 0 where
+  pub apart : (j k : ℕ) (a b : GroupId × List Committed) → j < k → slice_get histories j ≡ Some a → slice_get histories k ≡ Some b → a.0.0 < b.0.0
+  pub some : (j : ℕ) (a : GroupId × List Committed) → slice_get histories j ≡ Some a → a.1 ≡ [] → ⊥
 
 -- What is promised of the history of each group.
 pub record HistoryIsGood (rows : List Committed) : Type 0 where

@@ -1,30 +1,31 @@
 -- What is promised of each execution.
-use Rattle.std.specs.Prelude.{◌≡◌, ℕ, List, Contains}
+use Rattle.std.specs.Prelude.{◌≡◌, ℕ, List}
 use Rattle.cp_base.specs.declared.identifier.GroupId.{GroupId}
 use Rattle.cp_events.specs.declared.plan.Plan.{Plan}
 use Rattle.cp_events.specs.declared.schedule.Line.{Line}
-use Rattle.cp_world_rules.specs.Rows.{End}
 use Rattle.cp_world_rules.specs.Execution.{Execution, history}
 use Rattle.cp_world_rules.specs.Requests.{AsksItselfOnce, CallsStand, EndsOnce, NumbersApart, Requested, ReturnsOnce}
-use Rattle.cp_world_rules.specs.Entries.{EntriesAreAsked, HistoryIsGood, LengthsAreTrue}
-use Rattle.cp_world_rules.specs.Answers.{IsAnswered}
+use Rattle.cp_world_rules.specs.Entries.{EntriesAreAsked, HistoriesStand, HistoryIsGood, LengthsAreTrue, RowsAreInOrder}
+use Rattle.cp_world_rules.specs.Answers.{AllAnswered}
 use Rattle.cp_world_rules.specs.Returns.{AllReturnsTell}
 use Rattle.cp_world_rules.specs.Telling.{EventsTell, FollowsLines}
 use Rattle.cp_world_rules.specs.Prompt.{IsPrompt}
 
 pub record Headline (plan : Plan) (lines : List Line) (x : Execution) : Type 0 where
   -- each group has one history, in which all is in order, and protected calls act at most once
+  pub one_each : HistoriesStand x.histories
   pub histories : (g : GroupId) → HistoryIsGood (history x g)
   -- each entry was asked for
   pub entries : EntriesAreAsked plan x
   pub lengths : LengthsAreTrue x
+  pub order : RowsAreInOrder x
   -- by a call that stands printed, or by a client's clock
   pub calls : CallsStand x
   pub requests : Requested plan x
   pub itself_once : AsksItselfOnce plan x
   pub numbers : NumbersApart x.requests
   -- each answer is the one-thread machine's, was committed between its request and the end of that, and has its cause
-  pub answers : (e : End) → Contains x.ends e → IsAnswered x e
+  pub answers : AllAnswered plan x
   pub ends_once : EndsOnce x.ends
   -- a call returns once, with such an answer, or with what a client says by itself, which has its cause
   pub returns_once : ReturnsOnce plan x

@@ -1,5 +1,5 @@
 -- What a return tells, and why.
-use Rattle.std.specs.Prelude.{◌≡◌, ◌≤◌, ◌<◌, ◌+◌, ◌⊎◌, ℕ, false, Some, Option, List, [], ◌∷◌, if◌then◌else◌, nat_le, Contains, ◌&&◌, is_none, ◌==◌, take, slice_get}
+use Rattle.std.specs.Prelude.{◌≡◌, ◌≤◌, ◌<◌, ◌+◌, ◌⊎◌, ℕ, false, Some, Option, List, [], ◌∷◌, ◌++◌, if◌then◌else◌, nat_le, Contains, ◌&&◌, is_none, ◌==◌, take, slice_get}
 use Rattle.cp_base.specs.Identifiers.{replay_id}
 use Rattle.cp_base.specs.declared.identifier.ClientNo.{ClientNo}
 use Rattle.cp_base.specs.declared.identifier.GroupId.{GroupId}
@@ -16,10 +16,11 @@ use Rattle.cp_events.specs.declared.event.Event.{Event}
 use Rattle.cp_events.specs.declared.event.Event.TheVariants as event
 use Rattle.cp_events.specs.declared.plan.Plan.{Plan}
 use Rattle.cp_events.specs.declared.user_op.UserOp.TheVariants as user
-use Rattle.cp_client_rules.specs.Asking.{wish_of}
+use Rattle.cp_client_rules.specs.Asking.{group_of, wish_of}
 use Rattle.cp_client_rules.specs.Calls.{patience}
 use Rattle.cp_world_rules.specs.Rows.{Called, End, Request, Returned}
 use Rattle.cp_world_rules.specs.Execution.{Execution, returns_in}
+use Rattle.cp_world_rules.specs.Sessions.{AllTaken}
 use Rattle.cp_world_rules.specs.Requests.{IsCallOfReturn, IsRequestOfCall, TookPlace}
 use Rattle.cp_world_rules.specs.Answers.{lets_go_on}
 
@@ -91,9 +92,16 @@ module _ (plan : Plan) (x : Execution) (r : Returned) where
     pub bounded : wish_of call.op ≡ Some wish
     pub passed : clock_after r.client call.event x.effects + patience + wish ≤ clock_after r.client r.event x.effects
 
-  -- The call was to close the client's session.
-  abbrev pub AskedToClose : Type 0
-  AskedToClose = (name : Option (List ℕ)) × TookPlace x r.event (event.Call r.client r.what.thread (user.CloseSession name))
+  -- The call was to close the client's session, and each session of the group that the client had been told before was taken
+  -- from it.
+  pub record HasNoSession : Type 0 where
+    pub name : Option (List ℕ)
+    pub asked : TookPlace x r.event (event.Call r.client r.what.thread (user.CloseSession name))
+    pub before : List End
+    pub behind : List End
+    pub parts : x.ends ≡ before ++ behind
+    pub later : (e : End) → Contains behind e → r.event ≤ e.event
+    pub taken : AllTaken x.requests (replay_id r.client) (group_of (user.CloseSession name)) before
 
   -- What a return tells.
   pub data IsTold : Type 0 where
@@ -102,7 +110,7 @@ module _ (plan : Plan) (x : Execution) (r : Returned) where
     -- that the session expired in which the thread held a lock
     lost : r.what.ending ≡ ending.Answered answer.OwnershipLost → LostOwnership → IsTold
     -- that there was no session to close
-    at_once : r.what.ending ≡ ending.Answered answer.Ok → AskedToClose → IsTold
+    at_once : r.what.ending ≡ ending.Answered answer.Ok → HasNoSession → IsTold
     -- that the call's deadline is past
     late : r.what.ending ≡ ending.Answered (answer.Indeterminate ended_by.Deadline) → PassedDeadline → IsTold
 

@@ -35,7 +35,7 @@ pub record IsTaken (requests : List Request) (client : ClientId) (group : GroupI
   pub in_group : e.group ≡ group
   pub takes : TakesSession s request.op e.answer
 
--- Each session that these answers told the client, a later one of them took from it.
-abbrev pub AllTaken : List Request → ClientId → List End → Type 0
-AllTaken requests client ends = (j s : ℕ) (told : End) → slice_get ends j ≡ Some told → TellsSession requests client s told
-    → (k : ℕ) × (e : End) × (j < k) × (slice_get ends k ≡ Some e) × IsTaken requests client told.group s e
+-- Each session of the group that these answers told the client, a later one of them took from it.
+abbrev pub AllTaken : List Request → ClientId → GroupId → List End → Type 0
+AllTaken requests client group ends = (j s : ℕ) (told : End) → slice_get ends j ≡ Some told → told.group ≡ group → TellsSession requests client s told
+    → (k : ℕ) × (e : End) × (j < k) × (slice_get ends k ≡ Some e) × IsTaken requests client group s e
