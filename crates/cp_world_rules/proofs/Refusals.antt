@@ -2,7 +2,7 @@
 use Rattle.std.proofs.Common.{◌≡◌, ℕ, ◌+◌, ◌<◌, ◌≤◌, ◌⊎◌, inl, inr, Bool, true, false, List, [], ◌∷◌, ◌++◌, Some, None, refl, sym, subst, ap, ◌∙◌, arith, length, map, zero, suc, le_refl}
 use Rattle.std.specs.Prelude.{Contains, slice_get, ℤ, pos, negsuc}
 use Rattle.std.proofs.lemmas.List.Elements.{Contains-push}
-use Rattle.cp_base.proofs.Tests.{no_false, no_true, none_some}
+use Rattle.cp_base.proofs.Tests.{no_false, no_true, none_some, same_some}
 use Rattle.cp_base.specs.declared.identifier.ClientId.{ClientId}
 use Rattle.cp_base.specs.declared.identifier.Invocation.{Invocation}
 use Rattle.cp_base.specs.declared.identifier.ThreadNo.{ThreadNo}
@@ -27,20 +27,20 @@ use Rattle.cp_events.specs.declared.schedule.Line.TheVariants as line
 use Rattle.cp_group_state.specs.Sessions.{is_open_for}
 use Rattle.cp_world_rules.specs.Orders.{state_before}
 use Rattle.cp_group_state.specs.History.{Given}
-use Rattle.cp_group_causes.proofs.Lists.{at-head, no-element, one-is, one-only}
+use Rattle.cp_group_causes.proofs.Lists.{at-head, get-in, no-element, one-is, one-only}
 use Rattle.cp_client_rules.specs.Asking.{default_group, wish_of}
 use Rattle.cp_client_rules.specs.Calls.{patience}
-use Rattle.cp_world_rules.specs.Rows.{Called, Committed, End, Request, Returned, entries_of}
-use Rattle.cp_world_rules.specs.Execution.{Execution}
-use Rattle.cp_world_rules.specs.Requests.{IsBeat, IsCallOf, IsForItself, IsForNeed, IsRequestOfCall, MayAsk}
-use Rattle.cp_world_rules.specs.Entries.{IsOfRequest, IsOwnEntry}
-use Rattle.cp_world_rules.specs.Answers.{lets_go_on}
-use Rattle.cp_world_rules.specs.Returns.{IsTold, PassedDeadline, answered, at_once, clock_after, late, lost}
-use Rattle.cp_world_rules.specs.Telling.{IsReturnOf}
-use Rattle.cp_world_rules.specs.Prompt.{BeginsAtOnce, IsOver, ended, went_on}
+use Rattle.cp_world_rules.specs.Rows.{Called, Committed, End, Opening, Request, Returned, entries_of}
+use Rattle.cp_world_rules.specs.Execution.{Execution, history}
+use Rattle.cp_world_rules.specs.Orders.{IsFullyOrderly}
+use Rattle.cp_world_rules.specs.Requests.{AsksItselfOnce, CallsStand, EndsOnce, IsBeat, IsCallOf, IsForItself, IsForNeed, IsRequestOfCall, MayAsk, NumbersApart, Requested, ReturnsOnce}
+use Rattle.cp_world_rules.specs.Entries.{EntriesAreAsked, EventsRise, HistoriesStand, IsOfRequest, IsOwnEntry, LengthsAreTrue, NamesOwnSessions, RowsAreInOrder}
+use Rattle.cp_world_rules.specs.Answers.{AllAnswered, IsAnswered, IsOfEndedGroup, lets_go_on}
+use Rattle.cp_world_rules.specs.Returns.{AllReturnsTell, HasNoSession, IsTold, PassedDeadline, answered, at_once, clock_after, late, lost}
+use Rattle.cp_world_rules.specs.Telling.{EventsTell, FollowsLines, IsReturnOf}
+use Rattle.cp_world_rules.specs.Prompt.{BeginsAtOnce, IsOver, IsPrompt, ended, went_on}
 use Rattle.cp_world_rules.specs.Prompt as prompt
-use Rattle.cp_world_rules.specs.Headline.{Headline}
-use Rattle.cp_world_rules.specs.Wrong.{AreRefused, acquire, add, answers_at_will, answers_nobody, answers_too_early, answers_twice, asks, asks_as_if_nothing_stood, asks_for_an_older_call, asks_twice, call_of, client, closes_a_session_to_come, closes_anothers_session, commits_nothing, counts_wrongly, does_nothing, enters, ignores_a_client, ignores_an_idle_thread, ignores_and_returns, never_returns, enters_before_it_is_asked, enters_in_the_wrong_order, enters_unasked, forgets_a_call, get, gets, gives, gives_up_early, gives_up_for_an_older_call, gives_up_without_a_deadline, increments, invocation, is_told, keeps_an_answer, locks, makes, makes_a_call_up, one_client, one_is, opening, opens, returns_at_will, returns_by_an_older_request, returns_to_nobody, returns_twice, returns_what_it_needed, shows, skips_a_line, takes_a_number_twice, thread, zero_is}
+use Rattle.cp_world_rules.specs.Wrong.{AreRefused, acquire, add, answers_at_will, answers_nobody, answers_too_early, answers_twice, asks, asks_as_if_nothing_stood, asks_for_an_older_call, asks_twice, call_of, client, closes_a_session_to_come, closes_anothers_session, closes_without_asking, commits_nothing, counts_wrongly, does_nothing, enters, enters_before_it_is_asked, enters_in_the_wrong_order, enters_unasked, forgets_a_call, get, gets, gives, gives_up_early, gives_up_for_an_older_call, gives_up_without_a_deadline, hides_a_session, ignores_a_client, ignores_an_idle_thread, ignores_and_returns, increments, invocation, is_told, keeps_an_answer, lists_in_the_wrong_order, locks, makes, makes_a_call_up, never_returns, one_client, one_is, opening, opens, opens_what_nobody_asked, returns_at_will, returns_by_an_older_request, returns_to_nobody, returns_twice, returns_what_it_needed, shows, skips_a_line, takes_a_number_twice, tells_two_histories, thread, zero_is}
 
 -- a return of client 1 and its thread 1
 abbrev row : ℕ → ℕ → Answer → Returned
@@ -56,45 +56,51 @@ only-call x c number e l = record {
   latest = λ d there mine of_thread by. let same = ap (λ (z : Called). z.event) (one-is c d (subst (λ rows. Contains rows d) e there)) in omega (arith, same);
 }
 
-wrong_order : (lines : List Line) → Headline one_client lines enters_in_the_wrong_order → ⊥
-wrong_order lines h = let l = (h.histories default_group).rises 0 1 (enters 2 2 get) (enters 1 1 add) (omega arith) refl refl in absurd (omega (arith, l))
+two_histories : HistoriesStand tells_two_histories.histories → ⊥
+two_histories h = let l = h.apart 0 1 (default_group, enters 1 1 get ∷ []) (default_group, enters 1 1 add ∷ []) (omega arith) refl refl in absurd (omega (arith, l))
 
-session_to_come : (lines : List Line) → Headline one_client lines closes_a_session_to_come → ⊥
-session_to_come lines h = let l = (h.histories default_group).orderly.sessions 0 (entry.Call (invocation 1 1) (op.Session (session.Close 1))) 1 refl (at-head 1 []) in absurd (omega (arith, l))
+listed : RowsAreInOrder lists_in_the_wrong_order → ⊥
+listed h = let l = (h.requests 0 1 (asks 2 1 2 get) (asks 1 0 1 get) (omega arith) refl refl).0 in absurd (omega (arith, l))
+
+wrong_order : EventsRise (history enters_in_the_wrong_order default_group) → ⊥
+wrong_order h = let l = h 0 1 (enters 2 2 get) (enters 1 1 add) (omega arith) refl refl in absurd (omega (arith, l))
+
+session_to_come : IsFullyOrderly (entries_of (history closes_a_session_to_come default_group)) → ⊥
+session_to_come h = let l = h.sessions 0 (entry.Call (invocation 1 1) (op.Session (session.Close 1))) 1 refl (at-head 1 []) in absurd (omega (arith, l))
 
 abbrev stood : List Entry
 stood = entry.Call (invocation 1 1) (op.Session session.Open) ∷ entry.Call (invocation 2 1) (op.Session (session.Close 1)) ∷ []
 
-anothers_session : (lines : List Line) → Headline one_client lines closes_anothers_session → ⊥
-anothers_session lines h = let o = (h.histories default_group).own_sessions 1 (invocation 2 1) (op.Session (session.Close 1)) 1 refl (at-head 1 []) in at o.moment o.before o.is_open where
+anothers_session : NamesOwnSessions (entries_of (history closes_anothers_session default_group)) → ⊥
+anothers_session h = let o = h 1 (invocation 2 1) (op.Session (session.Close 1)) 1 refl (at-head 1 []) in at o.moment o.before o.is_open where
   at : (m : ℕ) → m ≤ 1 → is_open_for (state_before stood m).sessions 1 (invocation 2 1).client ≡ true → ⊥
   at zero l e = no_false e
   at (suc zero) l e = no_false e
   at (suc (suc m)) l e = absurd (omega (arith, l))
 
-unasked : (lines : List Line) → Headline one_client lines enters_unasked → ⊥
-unasked lines h = at (h.entries default_group 0 (enters 1 1 get) refl) where
+unasked : EntriesAreAsked one_client enters_unasked → ⊥
+unasked h = at (h default_group 0 (enters 1 1 get) refl) where
   at : IsOfRequest enters_unasked default_group 0 (enters 1 1 get) ⊎ IsOwnEntry one_client default_group (entry.Call (invocation 1 1) get) → ⊥
   at (inl r) = no-element r.request r.began
   at (inr x) = x
 
-before_asked : (lines : List Line) → Headline one_client lines enters_before_it_is_asked → ⊥
-before_asked lines h = at (h.entries default_group 0 (enters 1 1 get) refl) where
+before_asked : EntriesAreAsked one_client enters_before_it_is_asked → ⊥
+before_asked h = at (h default_group 0 (enters 1 1 get) refl) where
   at : IsOfRequest enters_before_it_is_asked default_group 0 (enters 1 1 get) ⊎ IsOwnEntry one_client default_group (entry.Call (invocation 1 1) get) → ⊥
   at (inl r) = let e = ap (λ (z : Request). z.event) (one-is (asks 2 0 1 get) r.request r.began) in let l = r.begins_early in absurd (omega (arith, e, l))
   at (inr x) = x
 
-lengths : (lines : List Line) → Headline one_client lines asks_as_if_nothing_stood → ⊥
-lengths lines h = let l = (h.lengths.requests (asks 2 0 2 get) (at-head (asks 2 0 2 get) [])).behind 0 (enters 1 1 get) refl (omega arith) in absurd (omega (arith, l))
+lengths : LengthsAreTrue asks_as_if_nothing_stood → ⊥
+lengths h = let l = (h.requests (asks 2 0 2 get) (at-head (asks 2 0 2 get) [])).behind 0 (enters 1 1 get) refl (omega arith) in absurd (omega (arith, l))
 
-made_up : (lines : List Line) → Headline one_client lines makes_a_call_up → ⊥
-made_up lines h = none_some (h.calls.printed (makes 1 gets) (at-head (makes 1 gets) [])).stands
+made_up : CallsStand makes_a_call_up → ⊥
+made_up h = none_some (h.printed (makes 1 gets) (at-head (makes 1 gets) [])).stands
 
-forgotten : (lines : List Line) → Headline one_client lines forgets_a_call → ⊥
-forgotten lines h = let c = h.calls.noted 1 (client 1) thread gets (record { shown = shows 1 (call_of gets) [] (gives 1 zero_is ∷ []); stands = refl; event_is = refl; not_ignored = refl }) in no-element c.0 c.1
+forgotten : CallsStand forgets_a_call → ⊥
+forgotten h = let c = h.noted 1 (client 1) thread gets (record { shown = shows 1 (call_of gets) [] (gives 1 zero_is ∷ []); stands = refl; event_is = refl; not_ignored = refl }) in no-element c.0 c.1
 
-older_call : (lines : List Line) → Headline one_client lines asks_for_an_older_call → ⊥
-older_call lines h = at (h.requests (asks 2 0 1 add) (at-head (asks 2 0 1 add) [])) where
+older_call : Requested one_client asks_for_an_older_call → ⊥
+older_call h = at (h (asks 2 0 1 add) (at-head (asks 2 0 1 add) [])) where
   may : MayAsk one_client gets add → ⊥
   may (inl f) = not_get f.2 where
     not_get : add ≡ get → ⊥
@@ -117,43 +123,48 @@ older_call lines h = at (h.requests (asks 2 0 1 add) (at-head (asks 2 0 1 add) [
   at (inl r) = of r.0 r.1 (one-only (makes 1 increments) r.0 (makes 2 gets ∷ []) r.1.last.began)
   at (inr b) = beat b.asks
 
-asked_twice : (lines : List Line) → Headline one_client lines asks_twice → ⊥
-asked_twice lines h = let e = h.itself_once 0 1 (asks 1 0 1 add) (asks 1 1 2 add) (makes 1 increments) refl refl (of (asks 1 0 1 add) refl refl refl refl) (of (asks 1 1 2 add) refl refl refl refl) (0, 0, refl) (0, 0, refl) in absurd (omega (arith, e)) where
+asked_twice : AsksItselfOnce one_client asks_twice → ⊥
+asked_twice h = let e = h 0 1 (asks 1 0 1 add) (asks 1 1 2 add) (makes 1 increments) refl refl (of (asks 1 0 1 add) refl refl refl refl) (of (asks 1 1 2 add) refl refl refl refl) (0, 0, refl) (0, 0, refl) in absurd (omega (arith, e)) where
   of : (q : Request) → q.event ≡ 1 → q.call.client ≡ (invocation 1 1).client → q.call.thread ≡ thread → q.op ≡ add → IsRequestOfCall one_client asks_twice q (makes 1 increments)
   of q at mine of_thread is = record { last = only-call asks_twice (makes 1 increments) q.event refl (omega (arith, at)); by_client = mine; by_thread = of_thread; asks = inl (0, 0, is) }
 
-number_twice : (lines : List Line) → Headline one_client lines takes_a_number_twice → ⊥
-number_twice lines h = let e = h.numbers 0 1 (asks 1 0 1 get) (asks 2 1 1 get) refl refl refl in absurd (omega (arith, e))
+number_twice : NumbersApart takes_a_number_twice.requests → ⊥
+number_twice h = let e = h 0 1 (asks 1 0 1 get) (asks 2 1 1 get) refl refl refl in absurd (omega (arith, e))
 
-nobody : (lines : List Line) → Headline one_client lines answers_nobody → ⊥
-nobody lines h = let a = h.answers (is_told 1 1 2 zero_is) (at-head (is_told 1 1 2 zero_is) []) in
+-- without members each answer is of an entry
+only-answered : (x : Execution) (e : End) → IsAnswered x e ⊎ IsOfEndedGroup one_client x e → IsAnswered x e
+only-answered x e (inl a) = a
+only-answered x e (inr a) = absurd a
+
+nobody : AllAnswered one_client answers_nobody → ⊥
+nobody h = let a = only-answered answers_nobody (is_told 1 1 2 zero_is) (h (is_told 1 1 2 zero_is) (at-head (is_told 1 1 2 zero_is) [])) in
     let e = ap (λ (z : Request). z.call.number) (one-is (asks 1 0 1 get) a.request a.began) in let k = ap (λ (z : Invocation). z.number) a.call_is in absurd (omega (arith, e, k))
 
 value-of : Answer → ℤ
 value-of (answer.Value v) = v
 value-of a = pos 0
 
-at_will : (lines : List Line) → Headline one_client lines answers_at_will → ⊥
-at_will lines h = let a = h.answers (is_told 1 1 1 one_is) (at-head (is_told 1 1 1 one_is) []) in
+at_will : AllAnswered one_client answers_at_will → ⊥
+at_will h = let a = only-answered answers_at_will (is_told 1 1 1 one_is) (h (is_told 1 1 1 one_is) (at-head (is_told 1 1 1 one_is) [])) in
     no (ap (λ (g : Given). value-of g.answer) (one-is (record { index = 1; call = invocation 1 1; answer = zero_is }) (record { index = a.index; call = invocation 1 1; answer = one_is }) a.given))
   where
     no : pos 1 ≡ pos 0 → ⊥
     no e = cc
 
-too_early : (lines : List Line) → Headline one_client lines answers_too_early → ⊥
-too_early lines h = let a = h.answers (is_told 1 0 1 zero_is) (at-head (is_told 1 0 1 zero_is) []) in let k = a.begins_first in let l = a.own_first in let m = a.ends_last in absurd (omega (arith, k, l, m))
+too_early : AllAnswered one_client answers_too_early → ⊥
+too_early h = let a = only-answered answers_too_early (is_told 1 0 1 zero_is) (h (is_told 1 0 1 zero_is) (at-head (is_told 1 0 1 zero_is) [])) in let k = a.begins_first in let l = a.own_first in let m = a.ends_last in absurd (omega (arith, k, l, m))
 
-answered_twice : (lines : List Line) → Headline one_client lines answers_twice → ⊥
-answered_twice lines h = let e = h.ends_once 0 1 (is_told 1 1 1 zero_is) (is_told 1 1 1 zero_is) refl refl refl in absurd (omega (arith, e))
+answered_twice : EndsOnce answers_twice.ends → ⊥
+answered_twice h = let e = h 0 1 (is_told 1 1 1 zero_is) (is_told 1 1 1 zero_is) refl refl refl in absurd (omega (arith, e))
 
-returned_twice : (lines : List Line) → Headline one_client lines returns_twice → ⊥
-returned_twice lines h = let c = only-call returns_twice (makes 1 gets) 1 refl (le_refl 1) in let e = h.returns_once.once 0 1 (row 1 1 zero_is) (row 1 1 zero_is) (makes 1 gets) refl refl c c in absurd (omega (arith, e))
+returned_twice : ReturnsOnce one_client returns_twice → ⊥
+returned_twice h = let c = only-call returns_twice (makes 1 gets) 1 refl (le_refl 1) in let e = h.once 0 1 (row 1 1 zero_is) (row 1 1 zero_is) (makes 1 gets) refl refl c c in absurd (omega (arith, e))
 
-to_nobody : (lines : List Line) → Headline one_client lines returns_to_nobody → ⊥
-to_nobody lines h = let c = h.returns_once.of_call (row 1 1 zero_is) (at-head (row 1 1 zero_is) []) in no-element c.0 c.1.began
+to_nobody : ReturnsOnce one_client returns_to_nobody → ⊥
+to_nobody h = let c = h.of_call (row 1 1 zero_is) (at-head (row 1 1 zero_is) []) in no-element c.0 c.1.began
 
-older_request : (lines : List Line) → Headline one_client lines returns_by_an_older_request → ⊥
-older_request lines h = let c = h.returns_once.of_call (row 1 1 (answer.Session 1)) (at-head (row 1 1 (answer.Session 1)) []) in
+older_request : ReturnsOnce one_client returns_by_an_older_request → ⊥
+older_request h = let c = h.of_call (row 1 1 (answer.Session 1)) (at-head (row 1 1 (answer.Session 1)) []) in
     let l = c.2.greatest (asks 1 1 2 (acquire 1)) there (subst (IsRequestOfCall one_client returns_by_an_older_request (asks 1 1 2 (acquire 1))) (sym (one-is (makes 1 locks) c.0 c.1.began)) of) in absurd (omega (arith, l))
   where
     there : Contains (asks 1 0 1 (op.Session session.Open) ∷ asks 1 1 2 (acquire 1) ∷ []) (asks 1 1 2 (acquire 1))
@@ -174,8 +185,8 @@ session-ok e = cc
 session-late : {s : ℕ} → ending.Answered (answer.Session s) ≡ ending.Answered (answer.Indeterminate ended_by.Deadline) → ⊥
 session-late e = cc
 
-needed : (lines : List Line) → Headline one_client lines returns_what_it_needed → ⊥
-needed lines h = at (h.returns (row 1 1 (answer.Session 1)) (at-head (row 1 1 (answer.Session 1)) [])) where
+needed : AllReturnsTell one_client returns_what_it_needed → ⊥
+needed h = at (h (row 1 1 (answer.Session 1)) (at-head (row 1 1 (answer.Session 1)) [])) where
   at : IsTold one_client returns_what_it_needed (row 1 1 (answer.Session 1)) → ⊥
   at (answered a e t) = no_true (subst (λ (z : Request). lets_go_on z.op (answer.Session 1) ≡ false) (one-is (asks 1 0 1 (op.Session session.Open)) t.here.request t.here.began) (subst (λ x. lets_go_on t.here.request.op x ≡ false) (sym (answered-is e)) t.last))
   at (lost e t) = session-lost e
@@ -191,13 +202,54 @@ value-ok e = cc
 value-late : {v : ℤ} → ending.Answered (answer.Value v) ≡ ending.Answered (answer.Indeterminate ended_by.Deadline) → ⊥
 value-late e = cc
 
-untold : (lines : List Line) → Headline one_client lines returns_at_will → ⊥
-untold lines h = at (h.returns (row 1 1 zero_is) (at-head (row 1 1 zero_is) [])) where
+untold : AllReturnsTell one_client returns_at_will → ⊥
+untold h = at (h (row 1 1 zero_is) (at-head (row 1 1 zero_is) [])) where
   at : IsTold one_client returns_at_will (row 1 1 zero_is) → ⊥
   at (answered a e t) = no-element t.here.end t.here.ended
   at (lost e t) = value-lost e
   at (at_once e t) = value-ok e
   at (late e t) = value-late e
+
+-- a session that was told, and not taken
+ok-lost : ending.Answered answer.Ok ≡ ending.Answered answer.OwnershipLost → ⊥
+ok-lost e = cc
+
+ok-late : ending.Answered answer.Ok ≡ ending.Answered (answer.Indeterminate ended_by.Deadline) → ⊥
+ok-late e = cc
+
+closed : AllReturnsTell one_client closes_without_asking → ⊥
+closed h = at (h (row 2 2 answer.Ok) (at-head (row 2 2 answer.Ok) [])) where
+  opened_by : End
+  opened_by = is_told 1 1 1 (answer.Session 1)
+
+  early_end : (e : End) → Contains (is_told 1 1 1 (answer.Session 1) ∷ []) e → 2 ≤ e.event → ⊥
+  early_end e there l = let same = ap (λ (z : End). z.event) (one-is (is_told 1 1 1 (answer.Session 1)) e there) in absurd (omega (arith, same, l))
+
+  -- the one end stands before, and none behind it
+  by : (before behind : List End) → is_told 1 1 1 (answer.Session 1) ∷ [] ≡ before ++ behind → ((e : End) → Contains behind e → 2 ≤ e.event) → (before ≡ is_told 1 1 1 (answer.Session 1) ∷ []) ⊎ ⊥
+  by [] [] e later = absurd (none_some (sym (ap (λ (rows : List End). slice_get rows 0) e)))
+  by [] (x ∷ behind) e later = inr (early_end x (subst (λ rows. Contains rows x) (sym e) (at-head x behind)) (later x (at-head x behind)))
+  by (x ∷ before) behind e later = inl (ends before behind (ap (λ (rows : List End). length rows) e) ∙ same) where
+    same : x ∷ [] ≡ is_told 1 1 1 (answer.Session 1) ∷ []
+    same = ap (λ y. y ∷ []) (sym (same_some (ap (λ (rows : List End). slice_get rows 0) e)))
+
+    ends : (xs ys : List End) → 1 ≡ suc (length (xs ++ ys)) → x ∷ xs ≡ x ∷ []
+    ends [] ys l = refl
+    ends (y ∷ xs) ys l = absurd (omega (arith, l))
+
+  no : HasNoSession one_client closes_without_asking (row 2 2 answer.Ok) → ⊥
+  no n = from (by n.before n.behind n.parts n.later) where
+    from : (n.before ≡ is_told 1 1 1 (answer.Session 1) ∷ []) ⊎ ⊥ → ⊥
+    from (inr x) = x
+    from (inl e) = let t = n.taken 0 1 (is_told 1 1 1 (answer.Session 1)) (subst (λ rows. slice_get rows 0 ≡ Some (is_told 1 1 1 (answer.Session 1))) (sym e) refl) refl
+        (record { request = asks 1 0 1 (op.Session session.Open); began = at-head (asks 1 0 1 (op.Session session.Open)) []; of_request = refl; by_client = refl; opens = refl; says = refl }) in
+        let k = get-in n.before t.0 t.1 t.3 in let l = t.2 in let size = ap (λ (rows : List End). length rows) e in absurd (omega (arith, k, l, size))
+
+  at : IsTold one_client closes_without_asking (row 2 2 answer.Ok) → ⊥
+  at (answered a e t) = let same = ap (λ (z : End). z.event) (one-is (is_told 1 1 1 (answer.Session 1)) t.here.end t.here.ended) in let here = t.here.here in absurd (omega (arith, same, here))
+  at (lost e t) = ok-lost e
+  at (at_once e t) = no t
+  at (late e t) = ok-late e
 
 -- calls that are given up
 abbrev late_row : ℕ → ℕ → Returned
@@ -216,15 +268,15 @@ only-late x number n none no (lost e t) = late-lost e
 only-late x number n none no (at_once e t) = late-ok e
 only-late x number n none no (late e t) = no t
 
-early : (lines : List Line) → Headline one_client lines gives_up_early → ⊥
-early lines h = only-late gives_up_early 2 1 refl no (h.returns (late_row 2 1) (at-head (late_row 2 1) [])) where
+early : AllReturnsTell one_client gives_up_early → ⊥
+early h = only-late gives_up_early 2 1 refl no (h (late_row 2 1) (at-head (late_row 2 1) [])) where
   no : PassedDeadline one_client gives_up_early (late_row 2 1) → ⊥
   no p = let l = subst (λ (z : Called). clock_after (client 1) z.event gives_up_early.effects + patience + p.wish ≤ clock_after (client 1) 2 gives_up_early.effects) (one-is (makes 1 gets) p.call p.call_is.began) p.passed in absurd (short p.wish l) where
     short : (wish : ℕ) → 0 + 60000 + wish ≤ 59999 → ⊥
     short wish l = absurd (omega (arith, l))
 
-older_deadline : (lines : List Line) → Headline one_client lines gives_up_for_an_older_call → ⊥
-older_deadline lines h = only-late gives_up_for_an_older_call 4 2 refl no (h.returns (late_row 4 2) (at-head (late_row 4 2) [])) where
+older_deadline : AllReturnsTell one_client gives_up_for_an_older_call → ⊥
+older_deadline h = only-late gives_up_for_an_older_call 4 2 refl no (h (late_row 4 2) (at-head (late_row 4 2) [])) where
   short : (wish : ℕ) → 59999 + 60000 + wish ≤ 60000 → ⊥
   short wish l = absurd (omega (arith, l))
 
@@ -235,25 +287,36 @@ older_deadline lines h = only-late gives_up_for_an_older_call 4 2 refl no (h.ret
   no : PassedDeadline one_client gives_up_for_an_older_call (late_row 4 2) → ⊥
   no p = by p (one-only (makes 1 gets) p.call (makes 3 gets ∷ []) p.call_is.began)
 
-no_deadline : (lines : List Line) → Headline one_client lines gives_up_without_a_deadline → ⊥
-no_deadline lines h = only-late gives_up_without_a_deadline 2 1 refl no (h.returns (late_row 2 1) (at-head (late_row 2 1) [])) where
+no_deadline : AllReturnsTell one_client gives_up_without_a_deadline → ⊥
+no_deadline h = only-late gives_up_without_a_deadline 2 1 refl no (h (late_row 2 1) (at-head (late_row 2 1) [])) where
   no : PassedDeadline one_client gives_up_without_a_deadline (late_row 2 1) → ⊥
   no p = none_some (subst (λ (z : Called). wish_of z.op ≡ Some p.wish) (one-is (makes 1 locks) p.call p.call_is.began) p.bounded)
 
-skipped : Headline one_client (line.One (call_of gets) ∷ []) skips_a_line → ⊥
-skipped h = let f = h.follows in let e = ap (λ (rows : List Event). length rows) f.1 in let k = ap (λ (rows : List Event). length rows) f.2.1 in absurd (omega (arith, e, k))
+skipped : FollowsLines (line.One (call_of gets) ∷ []) skips_a_line → ⊥
+skipped h = let f = h in let e = ap (λ (rows : List Event). length rows) f.1 in let k = ap (λ (rows : List Event). length rows) f.2.1 in absurd (omega (arith, e, k))
 
-counted : (lines : List Line) → Headline one_client lines counts_wrongly → ⊥
-counted lines h = let e = h.events.numbers 1 (shows 2 (call_of gets) [] (gives 1 zero_is ∷ [])) refl in absurd (omega (arith, e))
+counted : EventsTell counts_wrongly → ⊥
+counted h = let e = h.numbers 1 (shows 2 (call_of gets) [] (gives 1 zero_is ∷ [])) refl in absurd (omega (arith, e))
 
 abbrev not_shown : Effects
 not_shown = record { number = 1; event = call_of gets; ignored = Some ignored.NoSuchClient; opened = []; returns = gives 1 zero_is ∷ [] }
 
-not_quiet : (lines : List Line) → Headline one_client lines ignores_and_returns → ⊥
-not_quiet lines h = let q = h.events.quiet not_shown ignored.NoSuchClient (Contains-push (opening ∷ []) not_shown) refl in let e = ap (λ (rows : List (ClientNo × Return)). length rows) q.1 in absurd (omega (arith, e))
+not_quiet : EventsTell ignores_and_returns → ⊥
+not_quiet h = let q = h.quiet not_shown ignored.NoSuchClient (Contains-push (opening ∷ []) not_shown) refl in let e = ap (λ (rows : List (ClientNo × Return)). length rows) q.1 in absurd (omega (arith, e))
 
-not_returned : (lines : List Line) → Headline one_client lines never_returns → ⊥
-not_returned lines h = at (h.events.returned (asks 1 0 1 get) (is_told 1 1 1 zero_is) (at-head (asks 1 0 1 get) []) (at-head (is_told 1 1 1 zero_is) []) refl refl) where
+not_asked : EventsTell opens_what_nobody_asked → ⊥
+not_asked h = let o = h.opened (record { event = 1; client = client 1; what = record { group = default_group; session = 1 } }) (at-head (record { event = 1; client = client 1; what = record { group = default_group; session = 1 } }) []) in
+    no (sym (ap (λ (z : End). z.answer) (one-is (is_told 1 1 1 zero_is) o.0 o.1)) ∙ o.2.says)
+  where
+    no : zero_is ≡ answer.Session 1 → ⊥
+    no e = cc
+
+hidden : EventsTell hides_a_session → ⊥
+hidden h = let o = h.told (client 1) 1 (is_told 1 1 1 (answer.Session 1)) (at-head (is_told 1 1 1 (answer.Session 1)) [])
+    (record { request = asks 1 0 1 (op.Session session.Open); began = at-head (asks 1 0 1 (op.Session session.Open)) []; of_request = refl; by_client = refl; opens = refl; says = refl }) in no-element o.0 o.1
+
+not_returned : EventsTell never_returns → ⊥
+not_returned h = at (h.returned (asks 1 0 1 get) (is_told 1 1 1 zero_is) (at-head (asks 1 0 1 get) []) (at-head (is_told 1 1 1 zero_is) []) refl refl) where
   no : {s : ℕ} → get ≡ op.Session (session.Beat s) → ⊥
   no e = cc
 
@@ -261,23 +324,23 @@ not_returned lines h = at (h.events.returned (asks 1 0 1 get) (is_told 1 1 1 zer
   at (inl b) = no b.asks
   at (inr r) = no-element r.told r.printed
 
-ignored_client : (lines : List Line) → Headline one_client lines ignores_a_client → ⊥
-ignored_client lines h = no_true ((h.prompt refl).ignored 1 (record { number = 1; event = call_of gets; ignored = Some ignored.NoSuchClient; opened = []; returns = [] }) refl)
+ignored_client : (lines : List Line) → IsPrompt one_client lines ignores_a_client → ⊥
+ignored_client lines h = no_true (h.ignored 1 (record { number = 1; event = call_of gets; ignored = Some ignored.NoSuchClient; opened = []; returns = [] }) refl)
 
-ignored_thread : (lines : List Line) → Headline one_client lines ignores_an_idle_thread → ⊥
-ignored_thread lines h = let b = (h.prompt refl).ignored 1 (record { number = 1; event = call_of gets; ignored = Some (ignored.ThreadBusy 1); opened = []; returns = [] }) refl in no-element b.1.request b.1.began
+ignored_thread : (lines : List Line) → IsPrompt one_client lines ignores_an_idle_thread → ⊥
+ignored_thread lines h = let b = h.ignored 1 (record { number = 1; event = call_of gets; ignored = Some (ignored.ThreadBusy 1); opened = []; returns = [] }) refl in no-element b.1.request b.1.began
 
-nothing : (lines : List Line) → Headline one_client lines does_nothing → ⊥
-nothing lines h = at ((h.prompt refl).begins (makes 1 gets) (at-head (makes 1 gets) [])) where
+nothing : (lines : List Line) → IsPrompt one_client lines does_nothing → ⊥
+nothing lines h = at (h.begins (makes 1 gets) (at-head (makes 1 gets) [])) where
   at : BeginsAtOnce does_nothing (makes 1 gets) → ⊥
   at (inl q) = no-element q.0 q.1
   at (inr r) = no-element r.0 r.1
 
-not_committed : (lines : List Line) → Headline one_client lines commits_nothing → ⊥
-not_committed lines h = let e = ap (λ (rows : List Committed). length rows) (h.prompt refl).committed in absurd (omega (arith, e))
+not_committed : (lines : List Line) → IsPrompt one_client lines commits_nothing → ⊥
+not_committed lines h = let e = ap (λ (rows : List Committed). length rows) h.committed in absurd (omega (arith, e))
 
-kept : (lines : List Line) → Headline one_client lines keeps_an_answer → ⊥
-kept lines h = at ((h.prompt refl).answered (record { index = 1; call = invocation 1 1; answer = zero_is }) (enters 1 1 get) (at-head (record { index = 1; call = invocation 1 1; answer = zero_is }) []) (0, refl, refl)) where
+kept : (lines : List Line) → IsPrompt one_client lines keeps_an_answer → ⊥
+kept lines h = at (h.answered (record { index = 1; call = invocation 1 1; answer = zero_is }) (enters 1 1 get) (at-head (record { index = 1; call = invocation 1 1; answer = zero_is }) []) (0, refl, refl)) where
   at : IsOver keeps_an_answer 1 (invocation 1 1) → ⊥
   at (ended e there same l) = no-element e there
   at (prompt.returned r there same l) = no-element r there
@@ -285,12 +348,15 @@ kept lines h = at ((h.prompt refl).answered (record { index = 1; call = invocati
 
 pub are-refused : AreRefused
 are-refused = record {
+  right_is = refl;
+  two_histories = two_histories;
   wrong_order = wrong_order;
   session_to_come = session_to_come;
   anothers_session = anothers_session;
   unasked = unasked;
   before_asked = before_asked;
   lengths = lengths;
+  listed = listed;
   made_up = made_up;
   forgotten = forgotten;
   older_call = older_call;
@@ -305,12 +371,15 @@ are-refused = record {
   older_request = older_request;
   needed = needed;
   untold = untold;
+  closed = closed;
   early = early;
   older_deadline = older_deadline;
   no_deadline = no_deadline;
   skipped = skipped;
   counted = counted;
   not_quiet = not_quiet;
+  not_asked = not_asked;
+  hidden = hidden;
   not_returned = not_returned;
   ignored_client = ignored_client;
   ignored_thread = ignored_thread;

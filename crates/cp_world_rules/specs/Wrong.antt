@@ -1,4 +1,4 @@
--- Executions that are wrong, each named by what is wrong with it. The headline holds of none.
+-- Executions that are wrong, each named by what is wrong with it. A promise refuses it, computed.
 use Rattle.std.specs.Prelude.{◌≡◌, ℕ, pos, List, [], ◌∷◌, Some, None}
 use Rattle.cp_base.specs.Identifiers.{replay_id}
 use Rattle.cp_base.specs.declared.identifier.ClientNo.{ClientNo}
@@ -30,10 +30,16 @@ use Rattle.cp_events.specs.declared.user_op.LongCall.TheVariants as long_call
 use Rattle.cp_events.specs.declared.user_op.UserOp.{UserOp}
 use Rattle.cp_events.specs.declared.user_op.UserOp.TheVariants as user
 use Rattle.cp_client_rules.specs.Asking.{default_group}
-use Rattle.cp_world_rules.specs.Rows.{Called, Committed, End, Request}
+use Rattle.cp_world_rules.specs.Rows.{Called, Committed, End, Request, entries_of}
 use Rattle.cp_world_rules.specs.World.{shows_nothing}
-use Rattle.cp_world_rules.specs.Execution.{Execution, histories_of}
-use Rattle.cp_world_rules.specs.Headline.{Headline}
+use Rattle.cp_world_rules.specs.Execution.{Execution, Settled, execution_of, histories_of, history}
+use Rattle.cp_world_rules.specs.Orders.{IsFullyOrderly}
+use Rattle.cp_world_rules.specs.Requests.{AsksItselfOnce, CallsStand, EndsOnce, NumbersApart, Requested, ReturnsOnce}
+use Rattle.cp_world_rules.specs.Entries.{EntriesAreAsked, EventsRise, HistoriesStand, LengthsAreTrue, NamesOwnSessions, RowsAreInOrder}
+use Rattle.cp_world_rules.specs.Answers.{AllAnswered}
+use Rattle.cp_world_rules.specs.Returns.{AllReturnsTell}
+use Rattle.cp_world_rules.specs.Telling.{EventsTell, FollowsLines}
+use Rattle.cp_world_rules.specs.Prompt.{IsPrompt}
 
 -- ---- rows, of client 1 and its thread 1 where nothing else is said
 
@@ -125,6 +131,14 @@ right = record {
 abbrev pub enters_in_the_wrong_order : Execution
 enters_in_the_wrong_order = record nowhere { histories = histories_of (enters 2 2 get ∷ enters 1 1 add ∷ []) }
 
+-- A group has two histories.
+abbrev pub tells_two_histories : Execution
+tells_two_histories = record right { histories = (default_group, enters 1 1 get ∷ []) ∷ (default_group, enters 1 1 add ∷ []) ∷ [] }
+
+-- A request of an earlier event is listed behind one of a later.
+abbrev pub lists_in_the_wrong_order : Execution
+lists_in_the_wrong_order = record right { requests = asks 2 1 2 get ∷ asks 1 0 1 get ∷ [] }
+
 -- An entry closes a session of a greater index than its own.
 abbrev pub closes_a_session_to_come : Execution
 closes_a_session_to_come = record nowhere { histories = histories_of (enters 1 1 (op.Session (session.Close 1)) ∷ []) }
@@ -157,11 +171,15 @@ forgets_a_call = record right { calls = [] }
 
 -- A request for what the thread called before.
 abbrev pub asks_for_an_older_call : Execution
-asks_for_an_older_call = record nowhere { calls = makes 1 increments ∷ makes 2 gets ∷ []; requests = asks 2 0 1 add ∷ [] }
+asks_for_an_older_call = record nowhere {
+  effects = opening ∷ shows 1 (call_of increments) [] [] ∷ shows 2 (call_of gets) [] [] ∷ [];
+  calls = makes 1 increments ∷ makes 2 gets ∷ [];
+  requests = asks 2 0 1 add ∷ [];
+}
 
 -- Two requests for one call.
 abbrev pub asks_twice : Execution
-asks_twice = record right { calls = makes 1 increments ∷ []; requests = asks 1 0 1 add ∷ asks 1 1 2 add ∷ [] }
+asks_twice = record right { effects = opening ∷ shows 1 (call_of increments) [] [] ∷ []; calls = makes 1 increments ∷ []; requests = asks 1 0 1 add ∷ asks 1 1 2 add ∷ [] }
 
 -- Two requests of one number.
 abbrev pub takes_a_number_twice : Execution
@@ -212,6 +230,15 @@ returns_what_it_needed = record nowhere {
 abbrev pub returns_at_will : Execution
 returns_at_will = record right { ends = [] }
 
+-- A close that returns at once where the client has a session.
+abbrev pub closes_without_asking : Execution
+closes_without_asking = record nowhere {
+  effects = opening ∷ shows 1 (call_of locks) (opens 1) [] ∷ shows 2 (call_of (user.CloseSession None)) [] (gives 2 answer.Ok ∷ []) ∷ [];
+  calls = makes 1 locks ∷ makes 2 (user.CloseSession None) ∷ [];
+  requests = asks 1 0 1 (op.Session session.Open) ∷ [];
+  ends = is_told 1 1 1 (answer.Session 1) ∷ [];
+}
+
 -- A call that is given up one millisecond before its deadline.
 abbrev pub gives_up_early : Execution
 gives_up_early = record nowhere {
@@ -249,6 +276,19 @@ counts_wrongly = record right { effects = opening ∷ shows 2 (call_of gets) [] 
 abbrev pub ignores_and_returns : Execution
 ignores_and_returns = record right { effects = opening ∷ record (shows 1 (call_of gets) [] (gives 1 zero_is ∷ [])) { ignored = Some ignored.NoSuchClient } ∷ [] }
 
+-- A session stands printed as opened that no client was told.
+abbrev pub opens_what_nobody_asked : Execution
+opens_what_nobody_asked = record right { effects = opening ∷ shows 1 (call_of gets) (opens 1) (gives 1 zero_is ∷ []) ∷ [] }
+
+-- A client is told a session that stands nowhere printed.
+abbrev pub hides_a_session : Execution
+hides_a_session = record nowhere {
+  effects = opening ∷ shows 1 (call_of locks) [] [] ∷ [];
+  calls = makes 1 locks ∷ [];
+  requests = asks 1 0 1 (op.Session session.Open) ∷ [];
+  ends = is_told 1 1 1 (answer.Session 1) ∷ [];
+}
+
 -- A call that is answered, and does not return.
 abbrev pub never_returns : Execution
 never_returns = record right { effects = opening ∷ shows 1 (call_of gets) [] [] ∷ [] }
@@ -278,45 +318,49 @@ keeps_an_answer = record right { effects = opening ∷ shows 1 (call_of gets) []
 abbrev pub one_client : Plan
 one_client = record { members = 0; size = 1; clients = 1; snapshot = None; groups = None; limits = []; reads = None }
 
-abbrev pub IsRefused : Execution → Type 0
-IsRefused x = (lines : List Line) → Headline one_client lines x → ⊥
-
+-- Each is refused by the promise that names it; and what is right here is what happens.
 pub record AreRefused : Type 0 where
-  -- by the promises of histories and entries
-  pub wrong_order : IsRefused enters_in_the_wrong_order
-  pub session_to_come : IsRefused closes_a_session_to_come
-  pub anothers_session : IsRefused closes_anothers_session
-  pub unasked : IsRefused enters_unasked
-  pub before_asked : IsRefused enters_before_it_is_asked
-  pub lengths : IsRefused asks_as_if_nothing_stood
-  -- of calls and requests
-  pub made_up : IsRefused makes_a_call_up
-  pub forgotten : IsRefused forgets_a_call
-  pub older_call : IsRefused asks_for_an_older_call
-  pub asked_twice : IsRefused asks_twice
-  pub number_twice : IsRefused takes_a_number_twice
-  -- of answers
-  pub nobody : IsRefused answers_nobody
-  pub at_will : IsRefused answers_at_will
-  pub too_early : IsRefused answers_too_early
-  pub answered_twice : IsRefused answers_twice
-  -- of returns
-  pub returned_twice : IsRefused returns_twice
-  pub to_nobody : IsRefused returns_to_nobody
-  pub older_request : IsRefused returns_by_an_older_request
-  pub needed : IsRefused returns_what_it_needed
-  pub untold : IsRefused returns_at_will
-  pub early : IsRefused gives_up_early
-  pub older_deadline : IsRefused gives_up_for_an_older_call
-  pub no_deadline : IsRefused gives_up_without_a_deadline
-  -- of what is printed
-  pub skipped : Headline one_client (line.One (call_of gets) ∷ []) skips_a_line → ⊥
-  pub counted : IsRefused counts_wrongly
-  pub not_quiet : IsRefused ignores_and_returns
-  pub not_returned : IsRefused never_returns
-  -- and of what happens at once
-  pub ignored_client : IsRefused ignores_a_client
-  pub ignored_thread : IsRefused ignores_an_idle_thread
-  pub nothing : IsRefused does_nothing
-  pub not_committed : IsRefused commits_nothing
-  pub kept : IsRefused keeps_an_answer
+  pub right_is : execution_of (record { plan = one_client; lines = line.One (call_of gets) ∷ [] }) Settled ≡ right
+  -- histories and entries
+  pub two_histories : HistoriesStand tells_two_histories.histories → ⊥
+  pub wrong_order : EventsRise (history enters_in_the_wrong_order default_group) → ⊥
+  pub session_to_come : IsFullyOrderly (entries_of (history closes_a_session_to_come default_group)) → ⊥
+  pub anothers_session : NamesOwnSessions (entries_of (history closes_anothers_session default_group)) → ⊥
+  pub unasked : EntriesAreAsked one_client enters_unasked → ⊥
+  pub before_asked : EntriesAreAsked one_client enters_before_it_is_asked → ⊥
+  pub lengths : LengthsAreTrue asks_as_if_nothing_stood → ⊥
+  pub listed : RowsAreInOrder lists_in_the_wrong_order → ⊥
+  -- calls and requests
+  pub made_up : CallsStand makes_a_call_up → ⊥
+  pub forgotten : CallsStand forgets_a_call → ⊥
+  pub older_call : Requested one_client asks_for_an_older_call → ⊥
+  pub asked_twice : AsksItselfOnce one_client asks_twice → ⊥
+  pub number_twice : NumbersApart takes_a_number_twice.requests → ⊥
+  -- answers
+  pub nobody : AllAnswered one_client answers_nobody → ⊥
+  pub at_will : AllAnswered one_client answers_at_will → ⊥
+  pub too_early : AllAnswered one_client answers_too_early → ⊥
+  pub answered_twice : EndsOnce answers_twice.ends → ⊥
+  -- returns
+  pub returned_twice : ReturnsOnce one_client returns_twice → ⊥
+  pub to_nobody : ReturnsOnce one_client returns_to_nobody → ⊥
+  pub older_request : ReturnsOnce one_client returns_by_an_older_request → ⊥
+  pub needed : AllReturnsTell one_client returns_what_it_needed → ⊥
+  pub untold : AllReturnsTell one_client returns_at_will → ⊥
+  pub closed : AllReturnsTell one_client closes_without_asking → ⊥
+  pub early : AllReturnsTell one_client gives_up_early → ⊥
+  pub older_deadline : AllReturnsTell one_client gives_up_for_an_older_call → ⊥
+  pub no_deadline : AllReturnsTell one_client gives_up_without_a_deadline → ⊥
+  -- what is printed
+  pub skipped : FollowsLines (line.One (call_of gets) ∷ []) skips_a_line → ⊥
+  pub counted : EventsTell counts_wrongly → ⊥
+  pub not_quiet : EventsTell ignores_and_returns → ⊥
+  pub not_asked : EventsTell opens_what_nobody_asked → ⊥
+  pub hidden : EventsTell hides_a_session → ⊥
+  pub not_returned : EventsTell never_returns → ⊥
+  -- what happens at once
+  pub ignored_client : (lines : List Line) → IsPrompt one_client lines ignores_a_client → ⊥
+  pub ignored_thread : (lines : List Line) → IsPrompt one_client lines ignores_an_idle_thread → ⊥
+  pub nothing : (lines : List Line) → IsPrompt one_client lines does_nothing → ⊥
+  pub not_committed : (lines : List Line) → IsPrompt one_client lines commits_nothing → ⊥
+  pub kept : (lines : List Line) → IsPrompt one_client lines keeps_an_answer → ⊥
