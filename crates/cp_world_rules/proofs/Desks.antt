@@ -205,7 +205,7 @@ other-on calls c0 event q (inl h) = inl h
 other-on calls c0 event q (inr h) = inr (between-on calls c0 q.call.client q.call.thread event q.event h)
 
 -- a call of a later event
-last-on : (calls : List Called) (c0 : Called) (me : ClientNo) (t : ThreadNo) (number : ℕ) (c : Called) → number < c0.event → IsLast calls me t number c → IsLast (calls ++ c0 ∷ []) me t number c
+pub last-on : (calls : List Called) (c0 : Called) (me : ClientNo) (t : ThreadNo) (number : ℕ) (c : Called) → number < c0.event → IsLast calls me t number c → IsLast (calls ++ c0 ∷ []) me t number c
 last-on calls c0 me t number c l h = record {
   began = Contains-append_left calls (c0 ∷ []) c h.began;
   client_is = h.client_is;

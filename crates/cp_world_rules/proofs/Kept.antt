@@ -45,7 +45,7 @@ use Rattle.cp_world_rules.specs.World.{World, new_world, world_after, world_step
 use Rattle.cp_world_rules.specs.Execution.{Execution, Outcomes, events_of, executed, execution_of, histories_of, history, line_after, lines_after, openings_in, returns_in, rows_of, settles}
 use Rattle.cp_world_rules.specs.Requests.{AsksItselfOnce, CallsStand, EndsOnce, IsBeat, IsCallOf, IsCallOfReturn, IsForItself, IsLastNumber, IsRequestOfCall, MayAsk, ReturnsOnce, TookPlace}
 use Rattle.cp_world_rules.specs.Entries.{EntriesAreAsked, HistoriesStand, HistoryIsGood, IsLengthAt, IsOfRequest, IsOwnEntry, LengthsAreTrue, RowsAreInOrder}
-use Rattle.cp_world_rules.specs.Answers.{IsAnswered, IsCommittedAt, lets_go_on}
+use Rattle.cp_world_rules.specs.Answers.{GoesOn, IsAnswered, IsCommittedAt, lets_go_on}
 use Rattle.cp_world_rules.specs.Returns.{IsTold, PassedDeadline, answered, at_once, clock_after, late, lost}
 use Rattle.cp_world_rules.specs.Telling.{EventsTell, FollowsLines, IsOpening, IsReturnOf, StandFor, StandsOpened}
 use Rattle.cp_world_rules.specs.Sessions.{TellsSession}
@@ -68,6 +68,7 @@ use Rattle.cp_world_rules.proofs.Threads.{book_of, le-cases}
 use Rattle.cp_world_rules.proofs.Working.{itself-plain}
 use Rattle.cp_world_rules.proofs.Desked.{Sound, none-sound, runs-printed, runs-sound}
 use Rattle.cp_world_rules.proofs.Judged.{all-ignored}
+use Rattle.cp_world_rules.proofs.Goes.{AllGoneOn, all-gone-on}
 use Rattle.cp_world_rules.proofs.Told.{ClosesRight, Seen, all-seen}
 use Rattle.cp_world_rules.proofs.Handed.{Gone, OverBy, all-gone, ended_by, gone_on_by, returned_by}
 
@@ -201,7 +202,7 @@ lines-stand [] = refl
 lines-stand (line.Settle n ∷ lines) = ([], events_of lines, refl, omega arith, λ e h. absurd (no-element e h), lines-stand lines)
 lines-stand (line.One e ∷ lines) = (events_of lines, refl, lines-stand lines)
 
-module _ (plan : Plan) (events : List Event) (w : World) (sound : Sound plan w) (seen : Seen w (openings_in w.effects)) (printed : Printed events w) (measured : Measured w) (quiet : AllQuiet w) (begun : AllBegun w) (ignoring : (number : ℕ) (shown : Effects) → slice_get w.effects number ≡ Some shown → IsIgnoredSo plan (executed w) number shown.event shown.ignored) (gone : Gone [] w) (over : w.queue ≡ []) where
+module _ (plan : Plan) (events : List Event) (w : World) (sound : Sound plan w) (seen : Seen w (openings_in w.effects)) (gone_on : AllGoneOn plan w) (printed : Printed events w) (measured : Measured w) (quiet : AllQuiet w) (begun : AllBegun w) (ignoring : (number : ℕ) (shown : Effects) → slice_get w.effects number ≡ Some shown → IsIgnoredSo plan (executed w) number shown.event shown.ignored) (gone : Gone [] w) (over : w.queue ≡ []) where
   abbrev good : Good plan w
   good = sound.good
 
@@ -483,6 +484,19 @@ module _ (plan : Plan) (events : List Event) (w : World) (sound : Sound plan w) 
       (seen.closes r there ends)
   told r there (by_clock c m wish in_c mine thread bounded moved at own by_now over ends) = let x = book.of_call r there in past-told r there ends x.0 x.1 x.2 x.3
 
+  -- what goes on
+  goes-on : GoesOn plan (executed w)
+  goes-on q e c in_q in_e same goes of = let x = (gone_on q e in_q in_e same goes).1 in
+      let client_is : x.call.client ≡ c.client = replay-same x.call.client c.client (sym x.of_call.0 ∙ of.by_client) in
+      let thread_is : x.call.thread ≡ c.thread = sym x.of_call.1 ∙ of.by_thread in
+      let is : x.call ≡ c = same-last x.call.client x.call.thread q.event x.call c x.last_then (record { began = of.last.began; client_is = sym client_is; thread_is = sym thread_is; by_then = of.last.by_then; latest = λ d there mine thread by. of.last.latest d there (mine ∙ client_is) (thread ∙ thread_is) by }) in (
+        x.asked,
+        x.began,
+        subst (IsRequestOfCall plan (executed w) x.asked) is (record { last = call-of x.call.client x.call.thread x.asked.event x.call (subst (λ n. IsLast w.calls x.call.client x.call.thread n x.call) (sym x.here) x.last_here); by_client = x.owned.0; by_thread = x.owned.1; asks = inl x.itself }),
+        subst (λ (z : Called). IsForItself plan z.op x.asked.op) is x.itself,
+        x.here,
+      )
+
   -- sessions
   is-opening : (o : Opening) → Contains (openings_in w.effects) o → IsOpening (executed w) o
   is-opening o there = let x = seen.opened o there in (x.0, x.1, x.2, x.3, (measured.ends x.0 x.1).in_group ∙ sym x.4)
@@ -534,6 +548,7 @@ module _ (plan : Plan) (events : List Event) (w : World) (sound : Sound plan w) 
     numbers = good.distinct;
     answers = λ e there. inl (answered-so orderly e there);
     ends_once = ends-once;
+    goes_on = goes-on;
     returns_once = returns-once;
     returns = λ r h. let there = noted r h in told r there (good.returns r there);
     follows = (events, printed.events_are, subst (StandFor lines) (sym same) (lines-stand lines));
@@ -551,10 +566,10 @@ module _ (plan : Plan) (events : List Event) (w : World) (sound : Sound plan w) 
 pub headline-kept : (s : Schedule) (outcomes : Outcomes) → length (events_of s.lines) ≤ 2 ^ 61 → Headline s.plan s.lines (execution_of s outcomes)
 headline-kept s outcomes short = subst (λ w. Headline s.plan s.lines (executed w)) (sym (lines-same s.plan s.lines new_world)) (from (events_of s.lines) refl) where
   from : (events : List Event) → events ≡ events_of s.lines → Headline s.plan s.lines (executed (world_after s.plan new_world (events_of s.lines)))
-  from events same = let sound = runs-sound s.plan (events_of s.lines) in let seen = all-seen s.plan (events_of s.lines) in let printed = runs-printed s.plan (events_of s.lines) in
+  from events same = let sound = runs-sound s.plan (events_of s.lines) in let seen = all-seen s.plan (events_of s.lines) in let gone_on = all-gone-on s.plan (events_of s.lines) in let printed = runs-printed s.plan (events_of s.lines) in
       let measured = all-kept s.plan Measured measured-kept (events_of s.lines) (measured-first new_world refl refl refl) in
       let quiet = all-quiet s.plan (events_of s.lines) in let begun = all-begun s.plan (events_of s.lines) new_world (λ c h. absurd (no-element c h)) in
       let ignoring = all-ignored s.plan (events_of s.lines) (rests s.plan []) (none-sound s.plan) printed-none printed in
       let gone = all-gone s.plan (events_of s.lines) in let over = (rests s.plan (events_of s.lines)).queue in
-      headline-of s.plan (events_of s.lines) (world_after s.plan new_world (events_of s.lines)) sound seen printed measured quiet begun ignoring gone over
-      (is-orderly s.plan (events_of s.lines) (world_after s.plan new_world (events_of s.lines)) sound seen printed measured quiet begun ignoring gone over (settled s.plan (events_of s.lines)).1 short) s.lines refl
+      headline-of s.plan (events_of s.lines) (world_after s.plan new_world (events_of s.lines)) sound seen gone_on printed measured quiet begun ignoring gone over
+      (is-orderly s.plan (events_of s.lines) (world_after s.plan new_world (events_of s.lines)) sound seen gone_on printed measured quiet begun ignoring gone over (settled s.plan (events_of s.lines)).1 short) s.lines refl

@@ -21,6 +21,7 @@ pub mod Quiet
 pub mod Desked
 pub mod Served
 pub mod Told
+pub mod Goes
 pub mod Orders
 pub mod Judged
 pub mod Handed

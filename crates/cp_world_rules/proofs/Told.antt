@@ -789,11 +789,11 @@ seen-served : (plan : Plan) → IsServed plan SeenNow SeenBefore
 seen-served plan = record {
   calls = call-seen plan;
   ticks = tick-seen plan;
-  answers = λ request a w good given after h. answer-seen plan w request a good given h after;
+  answers = λ request a w good desked given after h. answer-seen plan w request a good given h after;
   commits = λ a w h. record { clients = λ me. same-seen w (openings w) me (client_at w me) (h.clients me) (commit a w) refl refl (le_refl w.shown.number); printed = h.printed; opened = h.opened; by_now = h.by_now; closes = h.closes };
   empties = λ w h. record { clients = λ me. same-seen w (openings w) me (client_at w me) (h.clients me) (record w { queue = [] }) refl refl (le_refl w.shown.number); printed = h.printed; opened = h.opened; by_now = h.by_now; closes = h.closes };
   ignores = λ cause w h. record { clients = λ me. same-seen w (openings w) me (client_at w me) (h.clients me) (ignore cause w) refl refl (le_refl w.shown.number); printed = h.printed; opened = h.opened; by_now = h.by_now; closes = h.closes };
-  called = λ c w h. record { clients = λ me. same-seen w (openings w) me (client_at w me) (h.clients me) (record w { calls = w.calls ++ c ∷ [] }) refl refl (le_refl w.shown.number); printed = h.printed; opened = h.opened; by_now = h.by_now; closes = h.closes };
+  called = λ c w earlier h. record { clients = λ me. same-seen w (openings w) me (client_at w me) (h.clients me) (record w { calls = w.calls ++ c ∷ [] }) refl refl (le_refl w.shown.number); printed = h.printed; opened = h.opened; by_now = h.by_now; closes = h.closes };
   moved = λ m w h. record { clients = λ me. same-seen w (openings w) me (client_at w me) (h.clients me) (record w { moves = w.moves ++ m ∷ [] }) refl refl (le_refl w.shown.number); printed = h.printed; opened = h.opened; by_now = h.by_now; closes = h.closes };
   starts = λ e w l h. subst (Seen (start e w)) (sym (push-none (openings_in w.effects) [] refl))
       (record { clients = λ me. same-seen w (openings_in w.effects) me (client_at w me) (h.clients me) (start e w) refl refl l; printed = h.printed; opened = h.opened; by_now = λ r there. le_trans (h.by_now r there) l; closes = h.closes });

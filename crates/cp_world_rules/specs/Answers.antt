@@ -10,8 +10,9 @@ use Rattle.cp_ops.specs.declared.session_op.SessionOp.TheVariants as session
 use Rattle.cp_events.specs.declared.plan.Plan.{Plan}
 use Rattle.cp_world_rules.specs.Orders.{IsGivenAt}
 use Rattle.cp_group_causes.specs.Causes.{HasCause}
-use Rattle.cp_world_rules.specs.Rows.{Committed, End, Request, entries_of}
+use Rattle.cp_world_rules.specs.Rows.{Called, Committed, End, Request, entries_of}
 use Rattle.cp_world_rules.specs.Execution.{Execution, history}
+use Rattle.cp_world_rules.specs.Requests.{IsForItself, IsRequestOfCall}
 
 -- the entry of an index, counted from 1
 abbrev pub IsCommittedAt : List Committed → ℕ → Committed → Type 0
@@ -53,3 +54,8 @@ abbrev pub lets_go_on : Op → Answer → Bool
 lets_go_on (op.Session session.Open) (answer.Session s) = true
 lets_go_on (op.Latch name latch.Round) (answer.Value round) = true
 lets_go_on o a = false
+
+-- Such an answer is followed by the request for the call itself, in the same event.
+abbrev pub GoesOn : Plan → Execution → Type 0
+GoesOn plan x = (q : Request) (e : End) (c : Called) → Contains x.requests q → Contains x.ends e → q.call ≡ e.call → lets_go_on q.op e.answer ≡ true → IsRequestOfCall plan x q c
+    → (p : Request) × Contains x.requests p × IsRequestOfCall plan x p c × IsForItself plan c.op p.op × (p.event ≡ e.event)

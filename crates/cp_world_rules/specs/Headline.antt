@@ -6,7 +6,7 @@ use Rattle.cp_events.specs.declared.schedule.Line.{Line}
 use Rattle.cp_world_rules.specs.Execution.{Execution, history}
 use Rattle.cp_world_rules.specs.Requests.{AsksItselfOnce, CallsStand, EndsOnce, NumbersApart, Requested, ReturnsOnce}
 use Rattle.cp_world_rules.specs.Entries.{EntriesAreAsked, HistoriesStand, HistoryIsGood, LengthsAreTrue, RowsAreInOrder}
-use Rattle.cp_world_rules.specs.Answers.{AllAnswered}
+use Rattle.cp_world_rules.specs.Answers.{AllAnswered, GoesOn}
 use Rattle.cp_world_rules.specs.Returns.{AllReturnsTell}
 use Rattle.cp_world_rules.specs.Telling.{EventsTell, FollowsLines}
 use Rattle.cp_world_rules.specs.Prompt.{IsPrompt}
@@ -27,6 +27,8 @@ pub record Headline (plan : Plan) (lines : List Line) (x : Execution) : Type 0 w
   -- each answer is the one-thread machine's, was committed between its request and the end of that, and has its cause
   pub answers : AllAnswered plan x
   pub ends_once : EndsOnce x.ends
+  -- one that gives a call what it needs lets it go on
+  pub goes_on : GoesOn plan x
   -- a call returns once, with such an answer, or with what a client says by itself, which has its cause
   pub returns_once : ReturnsOnce plan x
   pub returns : AllReturnsTell plan x
