@@ -109,7 +109,7 @@ beats-ends : (me : ClientId) (rows : Sessions) (c : Client) → (beat_each me ro
 beats-ends me [] c = refl
 beats-ends me (row ∷ rows) c = rw (due-ends me row.0 row.1 c, beats-ends me rows (beat_if_due me row.0 row.1 c).client)
 
-tick-ends : (me : ClientNo) (ms : ℕ) (c : Client) → (tick_client (replay_id me) ms c).ended ≡ []
+pub tick-ends : (me : ClientNo) (ms : ℕ) (c : Client) → (tick_client (replay_id me) ms c).ended ≡ []
 tick-ends me ms c = let e = each-ends user_threads (record c { clock = c.clock + ms }) in
     let f = beats-ends (replay_id me) (end_each user_threads (record c { clock = c.clock + ms })).client.sessions (end_each user_threads (record c { clock = c.clock + ms })).client in rw (e, f)
 

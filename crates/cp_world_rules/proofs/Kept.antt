@@ -46,7 +46,9 @@ use Rattle.cp_world_rules.specs.Execution.{Execution, Outcomes, events_of, execu
 use Rattle.cp_world_rules.specs.Requests.{AsksItselfOnce, CallsStand, EndsOnce, IsBeat, IsCallOf, IsCallOfReturn, IsForItself, IsLastNumber, IsRequestOfCall, MayAsk, ReturnsOnce, TookPlace}
 use Rattle.cp_world_rules.specs.Entries.{EntriesAreAsked, HistoriesStand, HistoryIsGood, IsLengthAt, IsOfRequest, IsOwnEntry, LengthsAreTrue, RowsAreInOrder}
 use Rattle.cp_world_rules.specs.Answers.{GoesOn, IsAnswered, IsCommittedAt, lets_go_on}
-use Rattle.cp_world_rules.specs.Returns.{IsTold, PassedDeadline, answered, at_once, clock_after, late, lost}
+use Rattle.cp_world_rules.specs.Returns.{EndedHere, IsTold, LostOwnership, PassedDeadline, answered, at_once, clock_after, late, lost}
+use Rattle.cp_world_rules.specs.Holding.{holds_before}
+use Rattle.cp_group_state.specs.Protected.{session_in}
 use Rattle.cp_world_rules.specs.Telling.{EventsTell, FollowsLines, IsOpening, IsReturnOf, StandFor, StandsOpened}
 use Rattle.cp_world_rules.specs.Sessions.{TellsSession}
 use Rattle.cp_world_rules.specs.Prompt.{BeginsAtOnce, IsIgnoredSo, IsOver, IsPrompt, ended, went_on}
@@ -69,7 +71,8 @@ use Rattle.cp_world_rules.proofs.Working.{itself-plain}
 use Rattle.cp_world_rules.proofs.Desked.{Sound, none-sound, runs-printed, runs-sound}
 use Rattle.cp_world_rules.proofs.Judged.{all-ignored}
 use Rattle.cp_world_rules.proofs.Goes.{AllGoneOn, all-gone-on}
-use Rattle.cp_world_rules.proofs.Told.{ClosesRight, Seen, all-seen}
+use Rattle.cp_world_rules.proofs.Held.{EndsAt, Held, HeldNone, Lost, all-held}
+use Rattle.cp_world_rules.proofs.Told.{ClosesRight, Seen}
 use Rattle.cp_world_rules.proofs.Handed.{Gone, OverBy, all-gone, ended_by, gone_on_by, returned_by}
 
 -- an answer of a step is one of the history
@@ -202,7 +205,7 @@ lines-stand [] = refl
 lines-stand (line.Settle n ∷ lines) = ([], events_of lines, refl, omega arith, λ e h. absurd (no-element e h), lines-stand lines)
 lines-stand (line.One e ∷ lines) = (events_of lines, refl, lines-stand lines)
 
-module _ (plan : Plan) (events : List Event) (w : World) (sound : Sound plan w) (seen : Seen w (openings_in w.effects)) (gone_on : AllGoneOn plan w) (printed : Printed events w) (measured : Measured w) (quiet : AllQuiet w) (begun : AllBegun w) (ignoring : (number : ℕ) (shown : Effects) → slice_get w.effects number ≡ Some shown → IsIgnoredSo plan (executed w) number shown.event shown.ignored) (gone : Gone [] w) (over : w.queue ≡ []) where
+module _ (plan : Plan) (events : List Event) (w : World) (sound : Sound plan w) (seen : Seen w (openings_in w.effects)) (held : Held w) (gone_on : AllGoneOn plan w) (printed : Printed events w) (measured : Measured w) (quiet : AllQuiet w) (begun : AllBegun w) (ignoring : (number : ℕ) (shown : Effects) → slice_get w.effects number ≡ Some shown → IsIgnoredSo plan (executed w) number shown.event shown.ignored) (gone : Gone [] w) (over : w.queue ≡ []) where
   abbrev good : Good plan w
   good = sound.good
 
@@ -413,12 +416,51 @@ module _ (plan : Plan) (events : List Event) (w : World) (sound : Sound plan w) 
   abbrev Told : Returned → Type 0
   Told r = IsTold plan (executed w) r
 
+  -- what is told of ownership
+  same-end : (e f : End) → Contains w.ends e → Contains w.ends f → e.call ≡ f.call → e ≡ f
+  same-end e f in_e in_f same = let j = get-some w.ends e in_e in let k = get-some w.ends f in_f in
+      same_some (sym j.1 ∙ (ap (slice_get w.ends) (ends-once j.0 k.0 e f j.1 k.1 same) ∙ k.1))
+
+  late-expired : {x : ℕ} → answer.Indeterminate ended_by.Deadline ≡ answer.SessionExpired x → ⊥
+  late-expired e = cc
+
+  ok-expired : {x : ℕ} → answer.Ok ≡ answer.SessionExpired x → ⊥
+  ok-expired e = cc
+
+  loss-expired : {x : ℕ} → answer.OwnershipLost ≡ answer.SessionExpired x → ⊥
+  loss-expired e = cc
+
+  not-lost : (r : Returned) (e : End) → Contains w.ends e → e.call ≡ request_of r → ((x : ℕ) → e.answer ≡ answer.SessionExpired x → ⊥) → LostOwnership plan (executed w) r → ⊥
+  not-lost r e in_e call no l = no l.expired (ap (λ (z : End). z.answer) (same-end e l.here.end in_e l.here.ended (call ∙ sym l.here.call_is)) ∙ l.says)
+
+  -- a thread that was told no hold lost none
+  kept-it : (r : Returned) → LostOwnership plan (executed w) r → HeldNone w r → ⊥
+  kept-it r l k = let at = k.0 in
+      let e : at.end ≡ l.here.end = same-end at.end l.here.end (get-contains w.ends at.place at.end at.stands) l.here.ended (at.call_is ∙ sym l.here.call_is) in
+      let p : at.place ≡ l.place = ends-once at.place l.place at.end l.here.end at.stands l.at_place (at.call_is ∙ sym l.here.call_is) in
+      let q : at.request ≡ l.here.request = one-request at.request l.here.request at.began l.here.began (at.of_end ∙ (at.call_is ∙ sym l.here.of_call)) in
+      let none = k.1 l.lock l.what l.session (ap (λ (z : Request). z.op) q ∙ l.on_lock) (ap (λ (z : Request). session_in z.op) q ∙ l.in_session) in
+      none_some (sym none ∙ (ap (λ (z : End). holds_before w.requests w.ends l.lock z at.place) e ∙ (ap (λ n. holds_before w.requests w.ends l.lock l.here.end n) p ∙ l.told)))
+
+  no-going-lost : (o : Op) → lets_go_on o answer.OwnershipLost ≡ false
+  no-going-lost (op.Session session.Open) = refl
+  no-going-lost (op.Latch name latch.Round) = refl
+  no-going-lost o = refl
+
+  here-at : (r : Returned) → EndsAt w r → EndedHere plan (executed w) r
+  here-at r at = record { end = at.end; ended = get-contains w.ends at.place at.end at.stands; here = at.here; call_is = at.call_is; request = at.request; began = at.began; of_call = at.of_end ∙ at.call_is }
+
+  lost-told : (r : Returned) → r.what.ending ≡ ending.Answered answer.OwnershipLost → Lost w r ⊎ ((at : EndsAt w r) × (at.end.answer ≡ answer.OwnershipLost)) → Told r
+  lost-told r ends (inl l) = lost ends (record { here = here-at r l.at; expired = l.expired; says = l.says; lock = l.name; what = l.what; on_lock = l.on_lock; session = l.session; in_session = l.in_session; place = l.at.place; at_place = l.at.stands; held = l.held; told = l.told })
+  lost-told r ends (inr x) = answered answer.OwnershipLost ends (record { here = here-at r x.0; answer_is = x.1; last = no-going-lost x.0.request.op })
+      (not-lost r x.0.end (get-contains w.ends x.0.place x.0.end x.0.stands) x.0.call_is (λ n says. loss-expired (sym x.1 ∙ says)))
+
   past-told : (r : Returned) → Contains w.returns r → r.what.ending ≡ ending.Answered (answer.Indeterminate ended_by.Deadline) → (c : Called) → IsLast w.calls r.client r.what.thread r.event c → IsNumbered plan (book_of w) r c → Tells w.ends w.moves r c → Told r
   past-told r there is c last n (by_answer e in_e at call (inl same)) = let q = good.ends e in_e in answered (answer.Indeterminate ended_by.Deadline) is (record {
     here = record { end = e; ended = in_e; here = at; call_is = call; request = q.entered.request; began = q.entered.begun; of_call = q.entered.mine ∙ call };
     answer_is = ending-same (sym same ∙ is);
     last = no-going q.entered.request.op;
-  })
+  }) (not-lost r e in_e call (λ x says. late-expired (ending-same (sym is ∙ (same ∙ ap (λ y. ending.Answered y) says)))))
   past-told r there is c last n (by_answer e in_e at call (inr same)) = absurd (lost-late (sym same ∙ is))
   past-told r there is c last n (desks.at_once at same) = absurd (ok-late (sym same ∙ is))
   past-told r there is c last n (past m wish in_m at mine bounded over) = late is (by n.asked) where
@@ -451,31 +493,14 @@ module _ (plan : Plan) (events : List Event) (w : World) (sound : Sound plan w) 
     here = record { end = x.0; ended = x.1; here = x.2; call_is = x.3; request = q.entered.request; began = q.entered.begun; of_call = q.entered.mine ∙ x.3 };
     answer_is = x.4;
     last = no-going-ok q.entered.request.op;
-  })
+  }) (not-lost r x.0 x.1 x.3 (λ n says. ok-expired (sym x.4 ∙ says)))
   closed-told r name ends took_place (inr x) = at_once ends (record { name = name; asked = took_place; before = x.0; behind = x.1; parts = x.2; later = x.3; taken = λ j s e at in_group tells. x.4 j s e at tells })
 
   told : (r : Returned) → Contains w.returns r → ToldBy (ledger_of w) r.event r.client r.what → Told r
-  told r there (by_end e in_e at call ends q in_q of_q fin) = answered e.answer ends (record { here = record { end = e; ended = in_e; here = at; call_is = call; request = q; began = in_q; of_call = of_q ∙ call }; answer_is = refl; last = fin })
-  told r there (by_loss e s name in_e at call expired lock f before ends) = lost ends (record {
-    here = record { end = e; ended = in_e; here = at; call_is = call; request = lock.0; began = lock.2; of_call = lock.3 ∙ call };
-    expired = s;
-    says = expired;
-    lock = name;
-    what = lock.1;
-    on_lock = lock.4;
-    taken = f.taken;
-    fence = f.fence;
-    told = f.told;
-    with_fence = f.with_fence;
-    asked = f.of_lock.0;
-    of_taken = f.of_lock.2;
-    asked_is = f.of_lock.3;
-    taken_what = f.of_lock.1;
-    of_lock = f.of_lock.4;
-    same_client = f.by_client ∙ ap (λ (z : Invocation). z.client) (sym call);
-    same_thread = ap (λ k. record { 0 = k }) f.by_thread ∙ ap (λ (z : Invocation). z.thread) (sym call);
-    before = before;
-  })
+  told r there (by_end e in_e at call ends q in_q of_q fin) = answered e.answer ends
+      (record { here = record { end = e; ended = in_e; here = at; call_is = call; request = q; began = in_q; of_call = of_q ∙ call }; answer_is = refl; last = fin })
+      (λ l. kept-it r l ((held.returns r there).kept l.expired (ends ∙ ap (λ y. ending.Answered y) (ap (λ (z : End). z.answer) (same-end e l.here.end in_e l.here.ended (call ∙ sym l.here.call_is)) ∙ l.says))))
+  told r there (by_loss e s name in_e at call expired lock f before ends) = lost-told r ends ((held.returns r there).lost ends)
   told r there (by_call c name in_c at mine thread is ends) = closed-told r name ends
       (took r.event _ (subst (λ k. Stands w.effects k (event.Call r.client r.what.thread (user.CloseSession name))) at
       (subst (λ me. Stands w.effects c.event (event.Call me r.what.thread (user.CloseSession name))) mine
@@ -566,10 +591,10 @@ module _ (plan : Plan) (events : List Event) (w : World) (sound : Sound plan w) 
 pub headline-kept : (s : Schedule) (outcomes : Outcomes) → length (events_of s.lines) ≤ 2 ^ 61 → Headline s.plan s.lines (execution_of s outcomes)
 headline-kept s outcomes short = subst (λ w. Headline s.plan s.lines (executed w)) (sym (lines-same s.plan s.lines new_world)) (from (events_of s.lines) refl) where
   from : (events : List Event) → events ≡ events_of s.lines → Headline s.plan s.lines (executed (world_after s.plan new_world (events_of s.lines)))
-  from events same = let sound = runs-sound s.plan (events_of s.lines) in let seen = all-seen s.plan (events_of s.lines) in let gone_on = all-gone-on s.plan (events_of s.lines) in let printed = runs-printed s.plan (events_of s.lines) in
+  from events same = let sound = runs-sound s.plan (events_of s.lines) in let both = all-held s.plan (events_of s.lines) in let seen = both.0 in let held = both.1 in let gone_on = all-gone-on s.plan (events_of s.lines) in let printed = runs-printed s.plan (events_of s.lines) in
       let measured = all-kept s.plan Measured measured-kept (events_of s.lines) (measured-first new_world refl refl refl) in
       let quiet = all-quiet s.plan (events_of s.lines) in let begun = all-begun s.plan (events_of s.lines) new_world (λ c h. absurd (no-element c h)) in
       let ignoring = all-ignored s.plan (events_of s.lines) (rests s.plan []) (none-sound s.plan) printed-none printed in
       let gone = all-gone s.plan (events_of s.lines) in let over = (rests s.plan (events_of s.lines)).queue in
-      headline-of s.plan (events_of s.lines) (world_after s.plan new_world (events_of s.lines)) sound seen gone_on printed measured quiet begun ignoring gone over
-      (is-orderly s.plan (events_of s.lines) (world_after s.plan new_world (events_of s.lines)) sound seen gone_on printed measured quiet begun ignoring gone over (settled s.plan (events_of s.lines)).1 short) s.lines refl
+      headline-of s.plan (events_of s.lines) (world_after s.plan new_world (events_of s.lines)) sound seen held gone_on printed measured quiet begun ignoring gone over
+      (is-orderly s.plan (events_of s.lines) (world_after s.plan new_world (events_of s.lines)) sound seen held gone_on printed measured quiet begun ignoring gone over (settled s.plan (events_of s.lines)).1 short) s.lines refl

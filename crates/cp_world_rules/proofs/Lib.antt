@@ -22,6 +22,7 @@ pub mod Desked
 pub mod Served
 pub mod Told
 pub mod Goes
+pub mod Held
 pub mod Orders
 pub mod Judged
 pub mod Handed

@@ -12,6 +12,8 @@ use Rattle.cp_answers.specs.declared.ended_by.EndedBy.TheVariants as ended_by
 use Rattle.cp_ops.specs.declared.entry.Entry.{Entry}
 use Rattle.cp_ops.specs.declared.entry.Entry.TheVariants as entry
 use Rattle.cp_object_ops.specs.declared.latch_op.LatchOp.TheVariants as latch
+use Rattle.cp_object_ops.specs.declared.lock_op.LockOp.{LockOp}
+use Rattle.cp_object_ops.specs.declared.lock_op.LockOp.TheVariants as lock
 use Rattle.cp_ops.specs.declared.op.Op.{Op}
 use Rattle.cp_ops.specs.declared.op.Op.TheVariants as op
 use Rattle.cp_ops.specs.declared.session_op.SessionOp.TheVariants as session
@@ -35,12 +37,13 @@ use Rattle.cp_world_rules.specs.Execution.{Execution, history}
 use Rattle.cp_world_rules.specs.Orders.{IsFullyOrderly}
 use Rattle.cp_world_rules.specs.Requests.{AsksItselfOnce, CallsStand, EndsOnce, IsBeat, IsCallOf, IsForItself, IsForNeed, IsRequestOfCall, MayAsk, NumbersApart, Requested, ReturnsOnce}
 use Rattle.cp_world_rules.specs.Entries.{EntriesAreAsked, EventsRise, HistoriesStand, IsOfRequest, IsOwnEntry, LengthsAreTrue, NamesOwnSessions, RowsAreInOrder}
-use Rattle.cp_world_rules.specs.Answers.{AllAnswered, IsAnswered, IsOfEndedGroup, lets_go_on}
-use Rattle.cp_world_rules.specs.Returns.{AllReturnsTell, HasNoSession, IsTold, PassedDeadline, answered, at_once, clock_after, late, lost}
+use Rattle.cp_world_rules.specs.Answers.{AllAnswered, GoesOn, IsAnswered, IsOfEndedGroup, lets_go_on}
+use Rattle.cp_world_rules.specs.Holding.{holds_before}
+use Rattle.cp_world_rules.specs.Returns.{AllReturnsTell, HasNoSession, IsTold, LostOwnership, PassedDeadline, answered, at_once, clock_after, late, lost}
 use Rattle.cp_world_rules.specs.Telling.{EventsTell, FollowsLines, IsReturnOf}
 use Rattle.cp_world_rules.specs.Prompt.{BeginsAtOnce, IsOver, IsPrompt, ended, went_on}
 use Rattle.cp_world_rules.specs.Prompt as prompt
-use Rattle.cp_world_rules.specs.Wrong.{AreRefused, acquire, add, answers_at_will, answers_nobody, answers_too_early, answers_twice, asks, asks_as_if_nothing_stood, asks_for_an_older_call, asks_twice, call_of, client, closes_a_session_to_come, closes_anothers_session, closes_without_asking, commits_nothing, counts_wrongly, does_nothing, enters, enters_before_it_is_asked, enters_in_the_wrong_order, enters_unasked, forgets_a_call, get, gets, gives, gives_up_early, gives_up_for_an_older_call, gives_up_without_a_deadline, hides_a_session, ignores_a_client, ignores_an_idle_thread, ignores_and_returns, increments, invocation, is_told, keeps_an_answer, lists_in_the_wrong_order, locks, makes, makes_a_call_up, never_returns, one_client, one_is, opening, opens, opens_what_nobody_asked, returns_at_will, returns_by_an_older_request, returns_to_nobody, returns_twice, returns_what_it_needed, shows, skips_a_line, takes_a_number_twice, tells_two_histories, thread, zero_is}
+use Rattle.cp_world_rules.specs.Wrong.{AreRefused, acquire, add, answers_at_will, answers_nobody, answers_too_early, answers_twice, asks, asks_as_if_nothing_stood, asks_for_an_older_call, asks_twice, call_of, client, closes_a_session_to_come, closes_anothers_session, closes_without_asking, commits_nothing, counts_wrongly, does_nothing, enters, enters_before_it_is_asked, enters_in_the_wrong_order, enters_unasked, forgets_a_call, get, gets, gives, gives_up_early, gives_up_for_an_older_call, gives_up_without_a_deadline, goes_nowhere, hides_a_session, hides_the_loss, ignores_a_client, ignores_an_idle_thread, ignores_and_returns, increments, invocation, is_told, keeps_an_answer, lists_in_the_wrong_order, locks, loses_what_it_gave_back, makes, makes_a_call_up, never_returns, one_client, one_is, opening, opens, opens_what_nobody_asked, release, returns_at_will, returns_by_an_older_request, returns_to_nobody, returns_twice, returns_what_it_needed, shows, skips_a_line, takes_a_number_twice, tells_two_histories, thread, zero_is}
 
 -- a return of client 1 and its thread 1
 abbrev row : ℕ → ℕ → Answer → Returned
@@ -157,6 +160,14 @@ too_early h = let a = only-answered answers_too_early (is_told 1 0 1 zero_is) (h
 answered_twice : EndsOnce answers_twice.ends → ⊥
 answered_twice h = let e = h 0 1 (is_told 1 1 1 zero_is) (is_told 1 1 1 zero_is) refl refl refl in absurd (omega (arith, e))
 
+gone_nowhere : GoesOn one_client goes_nowhere → ⊥
+gone_nowhere h = let x = h (asks 1 0 1 (op.Session session.Open)) (is_told 1 1 1 (answer.Session 1)) (makes 1 locks) (at-head (asks 1 0 1 (op.Session session.Open)) []) (at-head (is_told 1 1 1 (answer.Session 1)) []) refl refl
+    (record { last = only-call goes_nowhere (makes 1 locks) 1 refl (le_refl 1); by_client = refl; by_thread = refl; asks = inr (inl (refl, refl)) }) in
+    no (sym (ap (λ (z : Request). z.op) (one-is (asks 1 0 1 (op.Session session.Open)) x.0 x.1)) ∙ x.3.2)
+  where
+    no : {n : List ℕ} {o : LockOp} → op.Session session.Open ≡ op.Lock n o → ⊥
+    no e = cc
+
 returned_twice : ReturnsOnce one_client returns_twice → ⊥
 returned_twice h = let c = only-call returns_twice (makes 1 gets) 1 refl (le_refl 1) in let e = h.once 0 1 (row 1 1 zero_is) (row 1 1 zero_is) (makes 1 gets) refl refl c c in absurd (omega (arith, e))
 
@@ -188,7 +199,7 @@ session-late e = cc
 needed : AllReturnsTell one_client returns_what_it_needed → ⊥
 needed h = at (h (row 1 1 (answer.Session 1)) (at-head (row 1 1 (answer.Session 1)) [])) where
   at : IsTold one_client returns_what_it_needed (row 1 1 (answer.Session 1)) → ⊥
-  at (answered a e t) = no_true (subst (λ (z : Request). lets_go_on z.op (answer.Session 1) ≡ false) (one-is (asks 1 0 1 (op.Session session.Open)) t.here.request t.here.began) (subst (λ x. lets_go_on t.here.request.op x ≡ false) (sym (answered-is e)) t.last))
+  at (answered a e t kept) = no_true (subst (λ (z : Request). lets_go_on z.op (answer.Session 1) ≡ false) (one-is (asks 1 0 1 (op.Session session.Open)) t.here.request t.here.began) (subst (λ x. lets_go_on t.here.request.op x ≡ false) (sym (answered-is e)) t.last))
   at (lost e t) = session-lost e
   at (at_once e t) = session-ok e
   at (late e t) = session-late e
@@ -205,7 +216,7 @@ value-late e = cc
 untold : AllReturnsTell one_client returns_at_will → ⊥
 untold h = at (h (row 1 1 zero_is) (at-head (row 1 1 zero_is) [])) where
   at : IsTold one_client returns_at_will (row 1 1 zero_is) → ⊥
-  at (answered a e t) = no-element t.here.end t.here.ended
+  at (answered a e t kept) = no-element t.here.end t.here.ended
   at (lost e t) = value-lost e
   at (at_once e t) = value-ok e
   at (late e t) = value-late e
@@ -219,9 +230,6 @@ ok-late e = cc
 
 closed : AllReturnsTell one_client closes_without_asking → ⊥
 closed h = at (h (row 2 2 answer.Ok) (at-head (row 2 2 answer.Ok) [])) where
-  opened_by : End
-  opened_by = is_told 1 1 1 (answer.Session 1)
-
   early_end : (e : End) → Contains (is_told 1 1 1 (answer.Session 1) ∷ []) e → 2 ≤ e.event → ⊥
   early_end e there l = let same = ap (λ (z : End). z.event) (one-is (is_told 1 1 1 (answer.Session 1)) e there) in absurd (omega (arith, same, l))
 
@@ -246,10 +254,119 @@ closed h = at (h (row 2 2 answer.Ok) (at-head (row 2 2 answer.Ok) [])) where
         let k = get-in n.before t.0 t.1 t.3 in let l = t.2 in let size = ap (λ (rows : List End). length rows) e in absurd (omega (arith, k, l, size))
 
   at : IsTold one_client closes_without_asking (row 2 2 answer.Ok) → ⊥
-  at (answered a e t) = let same = ap (λ (z : End). z.event) (one-is (is_told 1 1 1 (answer.Session 1)) t.here.end t.here.ended) in let here = t.here.here in absurd (omega (arith, same, here))
+  at (answered a e t kept) = let same = ap (λ (z : End). z.event) (one-is (is_told 1 1 1 (answer.Session 1)) t.here.end t.here.ended) in let here = t.here.here in absurd (omega (arith, same, here))
   at (lost e t) = ok-lost e
   at (at_once e t) = no t
   at (late e t) = ok-late e
+
+-- ownership that is lost
+lost-expired : {x : ℕ} → ending.Answered (answer.SessionExpired x) ≡ ending.Answered answer.OwnershipLost → ⊥
+lost-expired e = cc
+
+expired-ok : {x : ℕ} → ending.Answered (answer.SessionExpired x) ≡ ending.Answered answer.Ok → ⊥
+expired-ok e = cc
+
+expired-late : {x : ℕ} → ending.Answered (answer.SessionExpired x) ≡ ending.Answered (answer.Indeterminate ended_by.Deadline) → ⊥
+expired-late e = cc
+
+lost-ok : ending.Answered answer.OwnershipLost ≡ ending.Answered answer.Ok → ⊥
+lost-ok e = cc
+
+lost-late : ending.Answered answer.OwnershipLost ≡ ending.Answered (answer.Indeterminate ended_by.Deadline) → ⊥
+lost-late e = cc
+
+name-of : Op → List ℕ
+name-of (op.Lock n o) = n
+name-of o = []
+
+abbrev first : End
+first = is_told 1 0 2 (answer.Fence 2)
+
+abbrev second : End
+second = is_told 1 0 3 answer.Ok
+
+abbrev third : End
+third = is_told 1 0 4 (answer.SessionExpired 1)
+
+given_back : AllReturnsTell one_client loses_what_it_gave_back → ⊥
+given_back h = at (h (row 1 4 answer.OwnershipLost) (at-head (row 1 4 answer.OwnershipLost) [])) where
+  -- the end of number 4 is the third
+  the-end : (e : End) → Contains (first ∷ second ∷ third ∷ []) e → e.call ≡ invocation 1 4 → e ≡ third
+  the-end e there call = one (one-only first e (second ∷ third ∷ []) there) where
+    number : e.call.number ≡ 4
+    number = ap (λ (z : Invocation). z.number) call
+
+    two : (e ≡ second) ⊎ Contains (third ∷ []) e → e ≡ third
+    two (inl same) = let n = ap (λ (z : End). z.call.number) same in absurd (omega (arith, n, number))
+    two (inr t) = one-is third e t
+
+    one : (e ≡ first) ⊎ Contains (second ∷ third ∷ []) e → e ≡ third
+    one (inl same) = let n = ap (λ (z : End). z.call.number) same in absurd (omega (arith, n, number))
+    one (inr t) = two (one-only second e (third ∷ []) t)
+
+  said : {x y : Answer} → x ≡ y → x ≡ answer.SessionExpired 1 → y ≡ answer.OwnershipLost → ⊥
+  said e f g = no (sym f ∙ (e ∙ g)) where
+    no : answer.SessionExpired 1 ≡ answer.OwnershipLost → ⊥
+    no k = cc
+
+  the-op : (q : Request) → Contains (asks 1 0 2 (acquire 1) ∷ asks 1 0 3 (release 1) ∷ asks 1 0 4 (release 1) ∷ []) q → name-of q.op ≡ 97 ∷ []
+  the-op q there = one (one-only (asks 1 0 2 (acquire 1)) q (asks 1 0 3 (release 1) ∷ asks 1 0 4 (release 1) ∷ []) there) where
+    two : (q ≡ asks 1 0 3 (release 1)) ⊎ Contains (asks 1 0 4 (release 1) ∷ []) q → name-of q.op ≡ 97 ∷ []
+    two (inl same) = ap (λ (z : Request). name-of z.op) same
+    two (inr t) = ap (λ (z : Request). name-of z.op) (one-is (asks 1 0 4 (release 1)) q t)
+
+    one : (q ≡ asks 1 0 2 (acquire 1)) ⊎ Contains (asks 1 0 3 (release 1) ∷ asks 1 0 4 (release 1) ∷ []) q → name-of q.op ≡ 97 ∷ []
+    one (inl same) = ap (λ (z : Request). name-of z.op) same
+    one (inr t) = two (one-only (asks 1 0 3 (release 1)) q (asks 1 0 4 (release 1) ∷ []) t)
+
+  the-place : (place : ℕ) → slice_get (first ∷ second ∷ third ∷ []) place ≡ Some third → place ≡ 2
+  the-place zero e = let n = ap (λ (z : End). z.call.number) (same_some e) in absurd (omega (arith, n))
+  the-place (suc zero) e = let n = ap (λ (z : End). z.call.number) (same_some e) in absurd (omega (arith, n))
+  the-place (suc (suc zero)) e = refl
+  the-place (suc (suc (suc place))) e = absurd (none_some e)
+
+  not_lost : LostOwnership one_client loses_what_it_gave_back (row 1 4 answer.OwnershipLost) → ⊥
+  not_lost l = let e = the-end l.here.end l.here.ended l.here.call_is in
+      let name : l.lock ≡ 97 ∷ [] = sym (ap name-of l.on_lock) ∙ the-op l.here.request l.here.began in
+      let place : l.place ≡ 2 = the-place l.place (l.at_place ∙ ap Some e) in
+      none_some (subst (λ n. holds_before loses_what_it_gave_back.requests loses_what_it_gave_back.ends (97 ∷ []) third n ≡ Some l.held) place
+      (subst (λ (z : End). holds_before loses_what_it_gave_back.requests loses_what_it_gave_back.ends (97 ∷ []) z l.place ≡ Some l.held) e
+      (subst (λ n. holds_before loses_what_it_gave_back.requests loses_what_it_gave_back.ends n l.here.end l.place ≡ Some l.held) name l.told)))
+
+  at : IsTold one_client loses_what_it_gave_back (row 1 4 answer.OwnershipLost) → ⊥
+  at (answered a e t kept) = said t.answer_is (ap (λ (z : End). z.answer) (the-end t.here.end t.here.ended t.here.call_is)) (sym (answered-is e))
+  at (lost e t) = not_lost t
+  at (at_once e t) = lost-ok e
+  at (late e t) = lost-late e
+
+loss_hidden : AllReturnsTell one_client hides_the_loss → ⊥
+loss_hidden h = at (h (row 1 3 (answer.SessionExpired 1)) (at-head (row 1 3 (answer.SessionExpired 1)) [])) where
+  at : IsTold one_client hides_the_loss (row 1 3 (answer.SessionExpired 1)) → ⊥
+  at (answered a e t kept) = kept (record {
+    here = record {
+      end = is_told 1 0 3 (answer.SessionExpired 1);
+      ended = Contains-push (is_told 1 0 2 (answer.Fence 2) ∷ []) (is_told 1 0 3 (answer.SessionExpired 1));
+      here = refl;
+      call_is = refl;
+      request = asks 1 0 3 (release 1);
+      began = Contains-push (asks 1 0 2 (acquire 1) ∷ []) (asks 1 0 3 (release 1));
+      of_call = refl;
+    };
+    expired = 1;
+    says = refl;
+    lock = 97 ∷ [];
+    what = lock.Release 1;
+    on_lock = refl;
+    session = 1;
+    in_session = refl;
+    place = 1;
+    at_place = refl;
+    held = record { session = 1; holds = 1 };
+    told = refl;
+  })
+  at (lost e t) = lost-expired e
+  at (at_once e t) = expired-ok e
+  at (late e t) = expired-late e
 
 -- calls that are given up
 abbrev late_row : ℕ → ℕ → Returned
@@ -263,7 +380,7 @@ late-ok e = cc
 
 -- where no request ended, only a deadline can be told
 only-late : (x : Execution) (number n : ℕ) → x.ends ≡ [] → (PassedDeadline one_client x (late_row number n) → ⊥) → IsTold one_client x (late_row number n) → ⊥
-only-late x number n none no (answered a e t) = no-element t.here.end (subst (λ rows. Contains rows t.here.end) none t.here.ended)
+only-late x number n none no (answered a e t kept) = no-element t.here.end (subst (λ rows. Contains rows t.here.end) none t.here.ended)
 only-late x number n none no (lost e t) = late-lost e
 only-late x number n none no (at_once e t) = late-ok e
 only-late x number n none no (late e t) = no t
@@ -366,12 +483,15 @@ are-refused = record {
   at_will = at_will;
   too_early = too_early;
   answered_twice = answered_twice;
+  gone_nowhere = gone_nowhere;
   returned_twice = returned_twice;
   to_nobody = to_nobody;
   older_request = older_request;
   needed = needed;
   untold = untold;
   closed = closed;
+  given_back = given_back;
+  loss_hidden = loss_hidden;
   early = early;
   older_deadline = older_deadline;
   no_deadline = no_deadline;

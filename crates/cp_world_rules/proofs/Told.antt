@@ -83,7 +83,7 @@ get-right [] ys k j y e h = subst (λ n. slice_get ys n ≡ Some y) (sym (same j
 get-right (x ∷ xs) ys k zero y e h = absurd (omega (arith, e))
 get-right (x ∷ xs) ys k (suc j) y e h = get-right xs ys k j y (omega (arith, e)) h
 
-get-left-at : {X : Type 0} (xs ys : List X) (k : ℕ) (x : X) → slice_get xs k ≡ Some x → slice_get (xs ++ ys) k ≡ Some x
+pub get-left-at : {X : Type 0} (xs ys : List X) (k : ℕ) (x : X) → slice_get xs k ≡ Some x → slice_get (xs ++ ys) k ≡ Some x
 get-left-at [] ys k x h = absurd (none_some h)
 get-left-at (y ∷ xs) ys zero x h = h
 get-left-at (y ∷ xs) ys (suc k) x h = get-left-at xs ys k x h
@@ -785,7 +785,7 @@ same-seen w rows me c h v ends requests l = record {
     told j s e (inl x) = inl x
     told j s e (inr x) = inr (x.0, x.1, x.2, subst (λ xs. slice_get xs x.0 ≡ Some x.1) (sym ends) x.3, subst (λ xs. IsTaken xs (replay_id me) default_group s x.1) (sym requests) x.4)
 
-seen-served : (plan : Plan) → IsServed plan SeenNow SeenBefore
+pub seen-served : (plan : Plan) → IsServed plan SeenNow SeenBefore
 seen-served plan = record {
   calls = call-seen plan;
   ticks = tick-seen plan;
@@ -801,7 +801,7 @@ seen-served plan = record {
       (record { clients = λ me. same-seen w (openings w) me (client_at w me) (h.clients me) (close w) refl refl (le_refl w.shown.number); printed = h.printed; opened = h.opened; by_now = h.by_now; closes = h.closes });
 }
 
-none-seen : SeenBefore new_world
+pub none-seen : SeenBefore new_world
 none-seen = record {
   clients = λ me. record { so = None; sessions = refl; printed = tt; told = λ j s e at. absurd (none_some at); groups = λ t now e. absurd (none_some e) };
   printed = λ me s e there. absurd (no-element e there);

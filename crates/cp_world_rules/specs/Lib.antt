@@ -2,6 +2,7 @@ pub mod Rows
 pub mod World
 pub mod Execution
 pub mod Sessions
+pub mod Holding
 pub mod Requests
 pub mod Orders
 pub mod Entries

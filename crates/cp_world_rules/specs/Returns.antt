@@ -1,5 +1,5 @@
 -- What a return tells, and why.
-use Rattle.std.specs.Prelude.{◌≡◌, ◌≤◌, ◌<◌, ◌+◌, ◌⊎◌, ℕ, false, Some, Option, List, [], ◌∷◌, ◌++◌, if◌then◌else◌, nat_le, Contains, ◌&&◌, is_none, ◌==◌, take, slice_get}
+use Rattle.std.specs.Prelude.{◌≡◌, ◌≤◌, ◌<◌, ◌+◌, ◌⊎◌, ℕ, false, Some, Option, List, [], ◌∷◌, ◌++◌, if◌then◌else◌, nat_le, Contains, ◌&&◌, is_none, ◌==◌, slice_get}
 use Rattle.cp_base.specs.Identifiers.{replay_id}
 use Rattle.cp_base.specs.declared.identifier.ClientNo.{ClientNo}
 use Rattle.cp_base.specs.declared.identifier.GroupId.{GroupId}
@@ -16,10 +16,13 @@ use Rattle.cp_events.specs.declared.event.Event.{Event}
 use Rattle.cp_events.specs.declared.event.Event.TheVariants as event
 use Rattle.cp_events.specs.declared.plan.Plan.{Plan}
 use Rattle.cp_events.specs.declared.user_op.UserOp.TheVariants as user
+use Rattle.cp_group_state.specs.Protected.{session_in}
+use Rattle.cp_client_rules.specs.declared.rows.HoldRecord.{HoldRecord}
 use Rattle.cp_client_rules.specs.Asking.{group_of, wish_of}
 use Rattle.cp_client_rules.specs.Calls.{patience}
 use Rattle.cp_world_rules.specs.Rows.{Called, End, Request, Returned}
 use Rattle.cp_world_rules.specs.Execution.{Execution, returns_in}
+use Rattle.cp_world_rules.specs.Holding.{holds_before}
 use Rattle.cp_world_rules.specs.Sessions.{AllTaken}
 use Rattle.cp_world_rules.specs.Requests.{IsCallOfReturn, IsRequestOfCall, TookPlace}
 use Rattle.cp_world_rules.specs.Answers.{lets_go_on}
@@ -55,8 +58,8 @@ module _ (plan : Plan) (x : Execution) (r : Returned) where
     pub answer_is : here.end.answer ≡ a
     pub last : lets_go_on here.request.op a ≡ false
 
-  -- The last request was one on a lock, and was answered here that a session expired. Before that the same thread had been
-  -- told a fence of the lock.
+  -- The last request was one on a lock, in a session, and was answered here that a session expired. By the answers before it
+  -- the thread had been told holds of the lock that it hasn't given back.
   pub record LostOwnership : Type 0 where
     pub here : EndedHere
     pub expired : ℕ
@@ -64,18 +67,12 @@ module _ (plan : Plan) (x : Execution) (r : Returned) where
     pub lock : List ℕ
     pub what : LockOp
     pub on_lock : here.request.op ≡ op.Lock lock what
-    pub taken : End
-    pub fence : ℕ
-    pub told : Contains x.ends taken
-    pub with_fence : taken.answer ≡ answer.Fence fence
-    pub asked : Request
-    pub of_taken : Contains x.requests asked
-    pub asked_is : asked.call ≡ taken.call
-    pub taken_what : LockOp
-    pub of_lock : asked.op ≡ op.Lock lock taken_what
-    pub same_client : taken.call.client ≡ here.end.call.client
-    pub same_thread : taken.call.thread ≡ here.end.call.thread
-    pub before : taken.event ≤ r.event
+    pub session : ℕ
+    pub in_session : session_in here.request.op ≡ Some session
+    pub place : ℕ
+    pub at_place : slice_get x.ends place ≡ Some here.end
+    pub held : HoldRecord
+    pub told : holds_before x.requests x.ends lock here.end place ≡ Some held
 
   -- The call wished to wait for a bounded time. Since it began, the clock of its client has moved by that and the patience
   -- of clients, by a tick of this event.
@@ -105,9 +102,9 @@ module _ (plan : Plan) (x : Execution) (r : Returned) where
 
   -- What a return tells.
   pub data IsTold : Type 0 where
-    -- the answer that ended the call's last request in this event
-    answered : (a : Answer) → r.what.ending ≡ ending.Answered a → ToldAnswer a → IsTold
-    -- that the session expired in which the thread held a lock
+    -- the answer that ended the call's last request in this event, unless ownership was lost
+    answered : (a : Answer) → r.what.ending ≡ ending.Answered a → ToldAnswer a → (LostOwnership → ⊥) → IsTold
+    -- that the session expired in which the thread asked, while it held the lock
     lost : r.what.ending ≡ ending.Answered answer.OwnershipLost → LostOwnership → IsTold
     -- that there was no session to close
     at_once : r.what.ending ≡ ending.Answered answer.Ok → HasNoSession → IsTold

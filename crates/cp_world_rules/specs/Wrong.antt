@@ -36,7 +36,7 @@ use Rattle.cp_world_rules.specs.Execution.{Execution, Settled, execution_of, his
 use Rattle.cp_world_rules.specs.Orders.{IsFullyOrderly}
 use Rattle.cp_world_rules.specs.Requests.{AsksItselfOnce, CallsStand, EndsOnce, NumbersApart, Requested, ReturnsOnce}
 use Rattle.cp_world_rules.specs.Entries.{EntriesAreAsked, EventsRise, HistoriesStand, LengthsAreTrue, NamesOwnSessions, RowsAreInOrder}
-use Rattle.cp_world_rules.specs.Answers.{AllAnswered}
+use Rattle.cp_world_rules.specs.Answers.{AllAnswered, GoesOn}
 use Rattle.cp_world_rules.specs.Returns.{AllReturnsTell}
 use Rattle.cp_world_rules.specs.Telling.{EventsTell, FollowsLines}
 use Rattle.cp_world_rules.specs.Prompt.{IsPrompt}
@@ -264,6 +264,33 @@ gives_up_without_a_deadline = record nowhere {
   requests = asks 1 0 1 (acquire 1) ∷ [];
 }
 
+-- Ownership is lost of a lock that was given back.
+abbrev pub loses_what_it_gave_back : Execution
+loses_what_it_gave_back = record nowhere {
+  effects = opening ∷ shows 1 (call_of (user.Lock a lock_call.Unlock)) [] (gives 4 answer.OwnershipLost ∷ []) ∷ [];
+  calls = makes 1 (user.Lock a lock_call.Unlock) ∷ [];
+  requests = asks 1 0 2 (acquire 1) ∷ asks 1 0 3 (release 1) ∷ asks 1 0 4 (release 1) ∷ [];
+  ends = is_told 1 0 2 (answer.Fence 2) ∷ is_told 1 0 3 answer.Ok ∷ is_told 1 0 4 (answer.SessionExpired 1) ∷ [];
+}
+
+-- A session expires in which a thread holds a lock, and the thread is told that alone.
+abbrev pub hides_the_loss : Execution
+hides_the_loss = record nowhere {
+  effects = opening ∷ shows 1 (call_of (user.Lock a lock_call.Unlock)) [] (gives 3 (answer.SessionExpired 1) ∷ []) ∷ [];
+  calls = makes 1 (user.Lock a lock_call.Unlock) ∷ [];
+  requests = asks 1 0 2 (acquire 1) ∷ asks 1 0 3 (release 1) ∷ [];
+  ends = is_told 1 0 2 (answer.Fence 2) ∷ is_told 1 0 3 (answer.SessionExpired 1) ∷ [];
+}
+
+-- A session is told that lets a call go on, and the call asks no more.
+abbrev pub goes_nowhere : Execution
+goes_nowhere = record nowhere {
+  effects = opening ∷ shows 1 (call_of locks) (opens 1) [] ∷ [];
+  calls = makes 1 locks ∷ [];
+  requests = asks 1 0 1 (op.Session session.Open) ∷ [];
+  ends = is_told 1 1 1 (answer.Session 1) ∷ [];
+}
+
 -- A line of the schedule that does not happen.
 abbrev pub skips_a_line : Execution
 skips_a_line = nowhere
@@ -341,6 +368,7 @@ pub record AreRefused : Type 0 where
   pub at_will : AllAnswered one_client answers_at_will → ⊥
   pub too_early : AllAnswered one_client answers_too_early → ⊥
   pub answered_twice : EndsOnce answers_twice.ends → ⊥
+  pub gone_nowhere : GoesOn one_client goes_nowhere → ⊥
   -- returns
   pub returned_twice : ReturnsOnce one_client returns_twice → ⊥
   pub to_nobody : ReturnsOnce one_client returns_to_nobody → ⊥
@@ -348,6 +376,8 @@ pub record AreRefused : Type 0 where
   pub needed : AllReturnsTell one_client returns_what_it_needed → ⊥
   pub untold : AllReturnsTell one_client returns_at_will → ⊥
   pub closed : AllReturnsTell one_client closes_without_asking → ⊥
+  pub given_back : AllReturnsTell one_client loses_what_it_gave_back → ⊥
+  pub loss_hidden : AllReturnsTell one_client hides_the_loss → ⊥
   pub early : AllReturnsTell one_client gives_up_early → ⊥
   pub older_deadline : AllReturnsTell one_client gives_up_for_an_older_call → ⊥
   pub no_deadline : AllReturnsTell one_client gives_up_without_a_deadline → ⊥
