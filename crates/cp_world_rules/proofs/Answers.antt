@@ -314,10 +314,10 @@ module _ (plan : Plan) (w : World) (request : Invocation) (a : Answer) (good : G
   prepared-returns : (now : Pending) (o : UserOp) (p : Purpose) (x : Answer) → a ≡ x → PurposeOk plan (ledger_of w) (client_of request) request (task.Calls o) p → ReturnsIt (prepared plan (replay_id (client_of request)) request.number (call_in request now o) p x c)
   prepared-returns now o purpose.ForSession (answer.Session s) is ok q there same fin = absurd (no_false (sym (subst (λ y. lets_go_on (op.Session session.Open) y ≡ false) is (subst (λ y. lets_go_on y a ≡ false) (op-of q (op.Session session.Open) there same ok.1) fin))))
   prepared-returns now o purpose.ForRound (answer.Value r) is ok q there same fin = absurd (no_false (sym (subst (λ y. lets_go_on (op.Latch ok.0.name latch.Round) y ≡ false) is (subst (λ y. lets_go_on y a ≡ false) (op-of q (op.Latch ok.0.name latch.Round) there same ok.2) fin))))
-  prepared-returns now o p x is ok = finished-returns now o p x
+  prepared-returns now o p x is ok q there same fin = finished-returns now o p x q there same fin
 
   task-back : (x : Task) (now : Pending) → PurposeOk plan (ledger_of w) (client_of request) request x now.purpose → ReturnsIt (on_task plan (replay_id (client_of request)) request x now a c)
-  task-back (task.Calls o) now ok = prepared-returns now o now.purpose a refl ok
+  task-back (task.Calls o) now ok q there same fin = prepared-returns now o now.purpose a refl ok q there same fin
   task-back (task.Beats s) now ok q there same fin = inl (ap is_beat (op-of q (op.Session (session.Beat s)) there same ok))
 
   task-returns : (t : Task) (now : Pending) → PurposeOk plan (ledger_of w) (client_of request) request t now.purpose → (x : Invocation × Answer) (q : Request) → Contains ((request, a) ∷ []) x → Contains w.requests q → q.call ≡ x.0 → lets_go_on q.op x.1 ≡ false
@@ -438,7 +438,7 @@ module _ (plan : Plan) (w : World) (me : ClientNo) (moved : Moved) (there : Cont
       }
 
   tick-midway : (ms : ℕ) → Good plan w → Midway plan w me (record (client_at w me) { clock = (client_at w me).clock + ms }) [] []
-  tick-midway ms good = let m = midway-now plan w me [] good in record { client = record { own = m.client.own; held = m.client.held; pending = m.client.pending }; rises = m.rises; fresh = m.fresh; distinct = m.distinct; legal = m.legal; sources = m.sources }
+  tick-midway ms good = let m = midway-now plan w me [] good in record { client = record { own = m.client.own; held = m.client.held; pending = m.client.pending }; rises = m.rises; fresh = m.fresh; distinct = m.distinct; rising = m.rising; legal = m.legal; sources = m.sources }
 
   from : (c : Client) → Midway plan w me c [] [] → c.clock ≡ moved.clock → DidOk plan w me (and_then (end_each user_threads c) (beats (replay_id me)))
   from c m clock = let x = late-all user_threads c m clock in

@@ -47,7 +47,7 @@ use Rattle.cp_world_rules.proofs.Desks.{is_beat}
 use Rattle.cp_world_rules.proofs.Lists.{get-append, rows-find}
 use Rattle.cp_world_rules.proofs.Ledgers.{ClientOk, Extends, HoldOk, IsSourced, Knows, Ledger, OpenedIn, PendingOk, TaskOk, ToldBy, by_call, client-on, ledger_of, lock_key, return_call, uses_session}
 use Rattle.cp_world_rules.proofs.Good.{AnsweredBy, Good, UsesOwn}
-use Rattle.cp_world_rules.proofs.Does.{DidOk, DistinctAsked}
+use Rattle.cp_world_rules.proofs.Does.{DidOk, DistinctAsked, RisesAsked}
 
 -- the ledger with what a step asks and ends
 abbrev pub with_step : World → List Asked → List (Invocation × Answer) → Ledger
@@ -66,6 +66,7 @@ pub record Midway (plan : Plan) (w : World) (me : ClientNo) (c : Client) (asked 
   pub rises : (t : ThreadNo) → (thread_at (client_at w me) t).number ≤ (thread_at c t).number
   pub fresh : (x : Asked) → Contains asked x → (x.call.client ≡ replay_id me) × ((thread_at (client_at w me) x.call.thread).number < x.call.number) × (x.call.number ≤ (thread_at c x.call.thread).number)
   pub distinct : DistinctAsked asked
+  pub rising : RisesAsked asked
   pub legal : (x : Asked) → Contains asked x → UsesOwn w.history x.call.client x.op × IsReached w.state (down_in x.op)
   pub sources : (x : Asked) → Contains asked x → IsSourced plan (ledger_of w) (begins_now w x)
 
@@ -109,6 +110,7 @@ module _ (plan : Plan) (w : World) (me : ClientNo) (asked : List Asked) (ended :
     rises = λ x. le_trans (m.rises x) (rises-in t n None c more x);
     fresh = λ x h. let f = m.fresh x h in (f.0, f.1, le_trans f.2 (rises-in t n None c more x.call.thread));
     distinct = m.distinct;
+    rising = m.rising;
     legal = m.legal;
     sources = m.sources;
   }
@@ -116,7 +118,7 @@ module _ (plan : Plan) (w : World) (me : ClientNo) (asked : List Asked) (ended :
   -- other sessions and hold records
   pub records-midway : (c : Client) (sessions : List (ℕ × OwnSession)) (holds : List (LockKey × HoldRecord)) → All (λ (e : ℕ × OwnSession). OpenedIn w.history e.1.id (replay_id me)) sessions
       → All (λ (e : LockKey × HoldRecord). HoldOk (with_step w asked ended) me e.0 e.1) holds → Midway plan w me c asked ended → Midway plan w me (record c { sessions = sessions; holds = holds }) asked ended
-  records-midway c sessions holds own held m = record { client = record { own = own; held = held; pending = m.client.pending }; rises = m.rises; fresh = m.fresh; distinct = m.distinct; legal = m.legal; sources = m.sources }
+  records-midway c sessions holds own held m = record { client = record { own = own; held = held; pending = m.client.pending }; rises = m.rises; fresh = m.fresh; distinct = m.distinct; rising = m.rising; legal = m.legal; sources = m.sources }
 
   -- a request
   module _ (t : ThreadNo) (now : Pending) (o : Op) (c : Client) (m : Midway plan w me c asked ended) where
@@ -161,6 +163,17 @@ module _ (plan : Plan) (w : World) (me : ClientNo) (asked : List Asked) (ended :
       by (inr x) (inl y) = let z = only x.0 a x.2 in absurd (apart b (get-contains asked k b y.0) (sym e ∙ ap (λ (q : Asked). q.call) (sym z.1)))
       by (inr x) (inr y) = let p = (only x.0 a x.2).0 in let q = (only y.0 b y.2).0 in let f = x.1 in let g = y.1 in omega (arith, p, q, f, g)
 
+    rising-all : RisesAsked (asked ++ new_asked ∷ [])
+    rising-all j k a b l at_j at_k client same_thread = by (get-append asked (new_asked ∷ []) j a at_j) (get-append asked (new_asked ∷ []) k b at_k) where
+      by : ((slice_get asked j ≡ Some a) × (j < length asked)) ⊎ ((i : ℕ) × (j ≡ length asked + i) × (slice_get (new_asked ∷ []) i ≡ Some a))
+          → ((slice_get asked k ≡ Some b) × (k < length asked)) ⊎ ((i : ℕ) × (k ≡ length asked + i) × (slice_get (new_asked ∷ []) i ≡ Some b)) → a.call.number < b.call.number
+      by (inl x) (inl y) = m.rising j k a b l x.0 y.0 client same_thread
+      by (inl x) (inr y) = let z = (only y.0 b y.2).1 in let f = (m.fresh a (get-contains asked j a x.0)).2 in
+          let n : a.call.number ≤ (thread_at c t).number = subst (λ (u : ThreadNo). a.call.number ≤ (thread_at c u).number) (same_thread ∙ ap (λ (q : Asked). q.call.thread) (sym z)) f in
+          let i : b.call.number ≡ (thread_at c t).number + 1 = ap (λ (q : Asked). q.call.number) (sym z) in omega (arith, n, i)
+      by (inr x) (inl y) = let f = x.1 in let g = y.1 in absurd (omega (arith, f, g, l))
+      by (inr x) (inr y) = let p = (only x.0 a x.2).0 in let q = (only y.0 b y.2).0 in let f = x.1 in let g = y.1 in absurd (omega (arith, p, q, f, g, l))
+
     pub ask-midway : PendingOk plan (with_step w (asked ++ new_asked ∷ []) ended) me t ((thread_at c t).number + 1) now → UsesOwn w.history (replay_id me) o × IsReached w.state (down_in o) → IsSourced plan (ledger_of w) (begins_now w new_asked)
         → Midway plan w me (ask (replay_id me) t now o c).client (asked ++ new_asked ∷ []) ended
     ask-midway pends legal source = let known = client-on (with_step w asked ended) (with_step w (asked ++ new_asked ∷ []) ended) (step-more w asked (new_asked ∷ []) ended) plan me c m.client in record {
@@ -172,6 +185,7 @@ module _ (plan : Plan) (w : World) (me : ClientNo) (asked : List Asked) (ended :
       rises = λ x. le_trans (m.rises x) (grows x);
       fresh = λ x h. fresh-all x (Contains-append_cases asked (new_asked ∷ []) x h);
       distinct = distinct-all;
+      rising = rising-all;
       legal = λ x h. legal-all x (Contains-append_cases asked (new_asked ∷ []) x h);
       sources = λ x h. sources-all x (Contains-append_cases asked (new_asked ∷ []) x h);
     }
@@ -360,7 +374,7 @@ module _ (plan : Plan) (w : World) (me : ClientNo) (ended : List (Invocation × 
 pub did : (plan : Plan) (w : World) (me : ClientNo) (d : Did) → Midway plan w me d.client d.asked d.ended → ((x : Invocation × Answer) → Contains d.ended x → AnsweredBy w.requests w.history w.shown.number (length w.history) x.0 x.1)
     → ((r : Return) → Contains d.returns r → ToldBy (ledger_of (note me d w)) w.shown.number me r)
     → ((x : Invocation × Answer) (q : Request) → Contains d.ended x → Contains w.requests q → q.call ≡ x.0 → lets_go_on q.op x.1 ≡ false → (is_beat q.op ≡ true) ⊎ ((r : Return) × Contains d.returns r × (return_call me r ≡ x.0))) → DidOk plan w me d
-did plan w me d m ended returns all = record { client = m.client; rises = m.rises; fresh = m.fresh; distinct = m.distinct; legal = m.legal; ended = ended; sources = m.sources; returns = returns; all_returned = all }
+did plan w me d m ended returns all = record { client = m.client; rises = m.rises; fresh = m.fresh; distinct = m.distinct; rising = m.rising; legal = m.legal; ended = ended; sources = m.sources; returns = returns; all_returned = all }
 
 pub midway-now : (plan : Plan) (w : World) (me : ClientNo) (ended : List (Invocation × Answer)) → Good plan w → Midway plan w me (client_at w me) [] ended
 midway-now plan w me ended good = record {
@@ -368,6 +382,7 @@ midway-now plan w me ended good = record {
   rises = λ t. le_refl (thread_at (client_at w me) t).number;
   fresh = λ x h. absurd (no-element x h);
   distinct = λ j k a b at_j. absurd (none_some at_j);
+  rising = λ j k a b l at_j. absurd (none_some at_j);
   legal = λ x h. absurd (no-element x h);
   sources = λ x h. absurd (no-element x h);
 }

@@ -99,7 +99,7 @@ module _ (plan : Plan) where
       (hand-desked w a good (given a (at-head a queue)) h)
 
   pub emptied-good : (w : World) → Good plan w → Good plan (record w { queue = [] })
-  emptied-good w good = record { state = good.state; ordered = good.ordered; orderly = good.orderly; own = good.own; named = good.named; upto = good.upto; rounds = good.rounds; waiters = good.waiters; queue = λ a h. absurd (no-element a h); ends = good.ends; ended_by_now = good.ended_by_now; clients_are = good.clients_are; numbers = good.numbers; distinct = good.distinct; entered = good.entered; sources = good.sources; returns = good.returns; clients = good.clients; all_returned = good.all_returned }
+  emptied-good w good = record { state = good.state; ordered = good.ordered; orderly = good.orderly; own = good.own; named = good.named; upto = good.upto; rounds = good.rounds; waiters = good.waiters; queue = λ a h. absurd (no-element a h); ends = good.ends; ended_by_now = good.ended_by_now; clients_are = good.clients_are; numbers = good.numbers; distinct = good.distinct; rising = good.rising; entered = good.entered; sources = good.sources; returns = good.returns; clients = good.clients; all_returned = good.all_returned }
 
   pub handed-desked : (w : World) → Good plan w → Desked plan w → Desked plan (handed plan w)
   handed-desked w good h = hands-desked w.queue (record w { queue = [] }) (emptied-good w good) (λ a there. let g = good.queue a there in record { answered = g.answered; fits = g.fits }) (record { book = h.book; threads = h.threads })

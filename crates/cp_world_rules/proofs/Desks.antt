@@ -306,7 +306,7 @@ module _ (plan : Plan) (b : Book) where
 
         asks : ((q : Request) × IsAsked plan b.requests r c q) ⊎ ((r.what.ending ≡ ending.Answered answer.Ok) × ((q : Request) → Contains b.requests q → Owns r.client r.what.thread q.call → c.event ≤ q.event → IsOther b.calls c.event q))
             → ((q : Request) × IsAsked plan (b.requests ++ q0 ∷ []) r c q) ⊎ ((r.what.ending ≡ ending.Answered answer.Ok) × ((q : Request) → Contains (b.requests ++ q0 ∷ []) q → Owns r.client r.what.thread q.call → c.event ≤ q.event → IsOther b.calls c.event q))
-        asks (inl x) = inl (x.0, Contains-append_left b.requests (q0 ∷ []) x.0 x.1, x.2, x.3, x.4, x.5, x.6)
+        asks (inl x) = inl (x.0, (Contains-append_left b.requests (q0 ∷ []) x.0 x.1.0, x.1.1, x.1.2, x.1.3, x.1.4, x.1.5))
         asks (inr x) = inr (x.0, λ q in_q mine at. none x.1 q (Contains-push_cases b.requests q0 q in_q) mine at)
 
       pub book-request : BookOk plan (with_request b q0) now

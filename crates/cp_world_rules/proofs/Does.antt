@@ -19,6 +19,7 @@ use Rattle.cp_group_causes.proofs.Lists.{get-contains, map-in, mapped}
 use Rattle.cp_client_rules.specs.Clients.{Asked, Client, Did, thread_at}
 use Rattle.cp_world_rules.specs.Rows.{Committed, End, Request, Returned}
 use Rattle.cp_world_rules.specs.World.{World, begins_now, client_at, client_of, does, ends_now, note, or_new, returns_now}
+use Rattle.cp_world_rules.specs.Requests.{NumbersRise}
 use Rattle.cp_world_rules.specs.Answers.{lets_go_on}
 use Rattle.cp_world_rules.proofs.Desks.{is_beat}
 use Rattle.cp_world_rules.proofs.Lists.{get-append, get-map}
@@ -29,11 +30,16 @@ use Rattle.cp_world_rules.proofs.Good.{AnsweredBy, Distinct, Entered, Given, Goo
 abbrev pub DistinctAsked : List Asked → Type 0
 DistinctAsked rs = (j k : ℕ) (a b : Asked) → slice_get rs j ≡ Some a → slice_get rs k ≡ Some b → a.call ≡ b.call → j ≡ k
 
+-- numbers rise along the requests of a step
+abbrev pub RisesAsked : List Asked → Type 0
+RisesAsked rs = (j k : ℕ) (a b : Asked) → j < k → slice_get rs j ≡ Some a → slice_get rs k ≡ Some b → a.call.client ≡ b.call.client → a.call.thread ≡ b.call.thread → a.call.number < b.call.number
+
 pub record DidOk (plan : Plan) (w : World) (me : ClientNo) (d : Did) : Type 0 where
   pub client : ClientOk plan (ledger_of (note me d w)) me d.client
   pub rises : (t : ThreadNo) → (thread_at (client_at w me) t).number ≤ (thread_at d.client t).number
   pub fresh : (x : Asked) → Contains d.asked x → (x.call.client ≡ replay_id me) × ((thread_at (client_at w me) x.call.thread).number < x.call.number) × (x.call.number ≤ (thread_at d.client x.call.thread).number)
   pub distinct : DistinctAsked d.asked
+  pub rising : RisesAsked d.asked
   pub legal : (x : Asked) → Contains d.asked x → UsesOwn w.history x.call.client x.op × IsReached w.state (down_in x.op)
   pub ended : (x : Invocation × Answer) → Contains d.ended x → AnsweredBy w.requests w.history w.shown.number (length w.history) x.0 x.1
   pub sources : (x : Asked) → Contains d.asked x → IsSourced plan (ledger_of w) (begins_now w x)
@@ -112,6 +118,27 @@ module _ (plan : Plan) (w : World) (me : ClientNo) (d : Did) (good : Good plan w
         let i : x.0 ≡ y.0 = ok.distinct x.0 y.0 p.0 q.0 p.1 q.1 (ap (λ (r : Request). r.call) (sym p.2) ∙ (same ∙ ap (λ (r : Request). r.call) q.2)) in
         let e = x.1 in let f = y.1 in omega (arith, i, e, f)
 
+  all-rising : NumbersRise (w.requests ++ new)
+  all-rising j k a b l at_j at_k client thread = by (get-append w.requests new j a at_j) (get-append w.requests new k b at_k) where
+    behind : Contains w.requests a → (x : Asked) → Contains d.asked x → b ≡ begins_now w x → a.call.number < b.call.number
+    behind there x asked is = let f = ok.fresh x asked in
+        let mine : a.call.client ≡ replay_id me = client ∙ (ap (λ (q : Request). q.call.client) is ∙ f.0) in
+        let same : a.call.thread ≡ x.call.thread = thread ∙ ap (λ (q : Request). q.call.thread) is in
+        let n : a.call.number ≤ (thread_at (client_at w me) a.call.thread).number = subst (λ y. a.call.number ≤ (thread_at (client_at w y) a.call.thread).number) (client-of a.call me mine) (good.numbers a there) in
+        let m : a.call.number ≤ (thread_at (client_at w me) x.call.thread).number = subst (λ (t : ThreadNo). a.call.number ≤ (thread_at (client_at w me) t).number) same n in
+        let more : (thread_at (client_at w me) x.call.thread).number < x.call.number = f.1 in
+        let number : b.call.number ≡ x.call.number = ap (λ (q : Request). q.call.number) is in omega (arith, m, more, number)
+
+    by : ((slice_get w.requests j ≡ Some a) × (j < length w.requests)) ⊎ ((i : ℕ) × (j ≡ length w.requests + i) × (slice_get new i ≡ Some a))
+        → ((slice_get w.requests k ≡ Some b) × (k < length w.requests)) ⊎ ((i : ℕ) × (k ≡ length w.requests + i) × (slice_get new i ≡ Some b)) → a.call.number < b.call.number
+    by (inl x) (inl y) = good.rising j k a b l x.0 y.0 client thread
+    by (inl x) (inr y) = let z = get-map (begins_now w) d.asked y.0 b y.2 in behind (get-contains w.requests j a x.0) z.0 (get-contains d.asked y.0 z.0 z.1) z.2
+    by (inr x) (inl y) = let e = x.1 in let f = y.1 in absurd (omega (arith, e, f, l))
+    by (inr x) (inr y) = let p = get-map (begins_now w) d.asked x.0 a x.2 in let q = get-map (begins_now w) d.asked y.0 b y.2 in
+        let e = x.1 in let f = y.1 in let less : x.0 < y.0 = omega (arith, e, f, l) in
+        let r = ok.rising x.0 y.0 p.0 q.0 less p.1 q.1 (ap (λ (z : Request). z.call.client) (sym p.2) ∙ (client ∙ ap (λ (z : Request). z.call.client) q.2)) (ap (λ (z : Request). z.call.thread) (sym p.2) ∙ (thread ∙ ap (λ (z : Request). z.call.thread) q.2)) in
+        let m : a.call.number ≡ p.0.call.number = ap (λ (z : Request). z.call.number) p.2 in let n : b.call.number ≡ q.0.call.number = ap (λ (z : Request). z.call.number) q.2 in omega (arith, r, m, n)
+
   new-ends : (e : End) → Contains w.ends e ⊎ Contains (map (ends_now w) d.ended) e → AnsweredBy (w.requests ++ new) w.history e.event e.length e.call e.answer
   new-ends e (inl h) = answered-more w.requests new w.history e.event e.length e.call e.answer (good.ends e h)
   new-ends e (inr h) = let x = mapped (ends_now w) d.ended e h in
@@ -170,6 +197,7 @@ module _ (plan : Plan) (w : World) (me : ClientNo) (d : Did) (good : Good plan w
     clients_are = λ r h. all-clients r (Contains-append_cases w.requests new r h);
     numbers = λ r h. all-numbers r (Contains-append_cases w.requests new r h);
     distinct = all-distinct;
+    rising = all-rising;
     entered = λ place c h. let r = good.entered place c h in (r.0, Contains-append_left w.requests new r.0 r.1, r.2, r.3, r.4);
     sources = λ r h. new-sources r (Contains-append_cases w.requests new r h);
     returns = λ r h. new-returns r (Contains-append_cases w.returns _ r h);

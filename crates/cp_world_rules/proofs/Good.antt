@@ -33,6 +33,7 @@ use Rattle.cp_group_causes.proofs.After.{after-apply}
 use Rattle.cp_group_causes.proofs.Caused.{names-used}
 use Rattle.cp_client_rules.specs.Clients.{Asked, thread_at}
 use Rattle.cp_world_rules.specs.Rows.{Committed, End, Request, Returned, entries_of}
+use Rattle.cp_world_rules.specs.Requests.{NumbersRise}
 use Rattle.cp_world_rules.specs.Entries.{NamesOwnSessions}
 use Rattle.cp_world_rules.specs.Answers.{lets_go_on}
 use Rattle.cp_world_rules.specs.Returns.{request_of}
@@ -134,6 +135,7 @@ pub record Good (plan : Plan) (w : World) : Type 0 where
   pub clients_are : (r : Request) → Contains w.requests r → r.call.client ≡ replay_id (client_of r.call)
   pub numbers : (r : Request) → Contains w.requests r → r.call.number ≤ (thread_at (client_at w (client_of r.call)) r.call.thread).number
   pub distinct : Distinct w.requests
+  pub rising : NumbersRise w.requests
   pub entered : (place : ℕ) (c : Committed) → slice_get w.history place ≡ Some c → (r : Request) × Contains w.requests r × (c.entry ≡ entry.Call r.call r.op) × (r.event ≤ c.event) × (r.length ≤ place)
   pub sources : (r : Request) → Contains w.requests r → IsSourced plan (ledger_of w) r
   pub returns : (r : Returned) → Contains w.returns r → ToldBy (ledger_of w) r.event r.client r.what
@@ -361,6 +363,7 @@ module _ (plan : Plan) (w : World) (a : Asked) (good : Good plan w) (ready : IsR
     clients_are = good.clients_are;
     numbers = good.numbers;
     distinct = good.distinct;
+    rising = good.rising;
     entered = λ place c h. in-history place c (get-append w.history (here ∷ []) place c h);
     sources = λ r h. source-on (ledger_of w) (ledger_of (commit a w)) ledger-here plan r (good.sources r h);
     returns = λ r h. told-on (ledger_of w) (ledger_of (commit a w)) ledger-here r.event r.client r.what (good.returns r h);

@@ -147,16 +147,16 @@ module _ (plan : Plan) where
 
     -- its request may be over already
     over-before : ((p : Pending) → (thread_at c a.0.thread).pending ≡ Some p → (thread_at c a.0.thread).number ≡ a.0.number → ⊥) → IsOverIn w a.0
-    over-before no = let e = given.answered.entered in by e.request e.mine ((h.threads (client_of a.0) a.0.thread).overs e.request e.begun (ap (λ (z : Invocation). z.client) e.mine ∙ mine.0, ap (λ (z : Invocation). z.thread) e.mine)) where
+    over-before never = let e = given.answered.entered in by e.request e.mine ((h.threads (client_of a.0) a.0.thread).overs e.request e.begun (ap (λ (z : Invocation). z.client) e.mine ∙ mine.0, ap (λ (z : Invocation). z.thread) e.mine)) where
       by : (q : Request) → q.call ≡ a.0 → ((p : Pending) × ((thread_at c a.0.thread).pending ≡ Some p) × (q.call.number ≡ (thread_at c a.0.thread).number)) ⊎ IsOverIn w q.call → IsOverIn w a.0
-      by q same (inl n) = absurd (no n.0 n.1 (sym n.2 ∙ ap (λ (z : Invocation). z.number) same))
+      by q same (inl n) = absurd (never n.0 n.1 (sym n.2 ∙ ap (λ (z : Invocation). z.number) same))
       by q same (inr o) = subst (IsOverIn w) same o
 
     abbrev OverAfter : Did → Type 0
     OverAfter d = OverIn (w.requests ++ map (begins_now w) d.asked) (w.ends ++ map (ends_now w) d.ended) (w.returns ++ map (returns_now w (client_of a.0)) d.returns) a.0
 
     dropped : ((p : Pending) → (thread_at c a.0.thread).pending ≡ Some p → (thread_at c a.0.thread).number ≡ a.0.number → ⊥) → OverAfter (nothing c)
-    dropped no = in-more w.requests [] w.ends [] w.returns [] a.0 (over-before no)
+    dropped never = in-more w.requests [] w.ends [] w.returns [] a.0 (over-before never)
 
     open-over : (o : Option Pending) → (thread_at c a.0.thread).pending ≡ o → OverAfter (on_pending plan (replay_id (client_of a.0)) a.0 o a.1 c)
     open-over None is = dropped (λ p at n. none_some (sym is ∙ at))

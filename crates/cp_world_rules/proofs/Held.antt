@@ -2,6 +2,7 @@
 use Rattle.std.proofs.Common.{◌≡◌, ℕ, ◌+◌, ◌-◌, ◌<◌, ◌≤◌, ◌⊎◌, inl, inr, Bool, true, false, ◌&&◌, List, [], ◌∷◌, ◌++◌, Some, None, Option, refl, sym, subst, ap, ◌∙◌, arith, length, map, le_refl, le_trans, if◌then◌else◌, take, zero, suc}
 use Rattle.std.specs.Prelude.{Contains, slice_get, nat_lt, ◌==◌, bytes_eq, unsigned_abs}
 use Rattle.std.specs.Cmp.{IsTotalOrder}
+use Rattle.std.specs.List.Sorted.{IsStrictlySortedBy}
 use Rattle.std.specs.Ordering.{is_eq, nat_cmp}
 use Rattle.std.specs.BTreeMap.{is_at}
 use Rattle.std.proofs.lemmas.List.Elements.{Contains-append_cases, Contains-append_left}
@@ -64,7 +65,7 @@ use Rattle.cp_world_rules.specs.Requests.{needs_session}
 use Rattle.cp_world_rules.specs.Returns.{request_of}
 use Rattle.cp_world_rules.specs.Holding.{after_lock, after_op, after_request, holds_before, is_of, one_less, one_more, op_in, told_by}
 use Rattle.cp_world_rules.specs.World.{World, begins_now, client_at, client_of, close, commit, ends_now, ignore, new_world, note, or_new, returns_now, start, world_after}
-use Rattle.cp_world_rules.proofs.Lists.{get-some, push-none}
+use Rattle.cp_world_rules.proofs.Lists.{get-left-at, get-some, push-none}
 use Rattle.cp_world_rules.proofs.Ledgers.{Knows, PurposeOk, ledger_of, lock_key}
 use Rattle.cp_world_rules.proofs.Desks.{replay-same}
 use Rattle.cp_world_rules.proofs.Desked.{note-client}
@@ -72,7 +73,7 @@ use Rattle.cp_world_rules.proofs.Good.{Given as GivenTo, Good}
 use Rattle.cp_world_rules.proofs.Working.{go-ends}
 use Rattle.cp_world_rules.proofs.Goes.{tick-ends}
 use Rattle.cp_world_rules.proofs.Served.{IsServed, all-served}
-use Rattle.cp_world_rules.proofs.Told.{GroupOk, Groups, Seen, get-left-at, none-seen, openings, seen-served}
+use Rattle.cp_world_rules.proofs.Told.{GroupOk, Groups, Seen, none-seen, openings, seen-served}
 
 lock_total : IsTotalOrder lock_cmp
 lock_total = then_total (then_total (on_total (λ (k : LockKey). k.0) nat_cmp_total) (on_total (λ (k : LockKey). k.1) nat_cmp_total)) (on_total (λ (k : LockKey). k.2) nat_list_cmp_total)
@@ -205,23 +206,21 @@ op-on (r ∷ rs) more call o e = by (same_call r.call call) e (op-on rs more cal
 
 pub op-of : (rs : List Request) (q : Request) → Contains rs q → ((r : Request) → Contains rs r → r.call ≡ q.call → r.op ≡ q.op) → op_in rs q.call ≡ Some q.op
 op-of [] q there one = absurd (no-element q there)
-op-of (r ∷ rs) q there one = by (same_call r.call q.call) refl where
-  later : same_call r.call q.call ≡ false → (q ≡ r) ⊎ Contains rs q → op_in rs q.call ≡ Some q.op
-  later e (inl same) = absurd (no_false (sym (subst (λ (z : Request). same_call z.call q.call ≡ false) (sym same) e) ∙ call-itself q.call))
-  later e (inr t) = op-of rs q t (λ x k same. one x (tail x k) same) where
-    tail : (x : Request) → Contains rs x → Contains (r ∷ rs) x
-    tail x k = at-tail x r rs k
+op-of (r ∷ rs) q there one = by (same_call r.call q.call) refl (λ t. op-of rs q t (λ x k same. one x (at-tail r x rs k) same)) where
+  later : same_call r.call q.call ≡ false → (Contains rs q → op_in rs q.call ≡ Some q.op) → (q ≡ r) ⊎ Contains rs q → op_in rs q.call ≡ Some q.op
+  later e rest (inl same) = absurd (no_true (sym (call-itself q.call) ∙ subst (λ (z : Request). same_call z.call q.call ≡ false) (sym same) e))
+  later e rest (inr t) = rest t
 
-  by : (b : Bool) → same_call r.call q.call ≡ b → (if b then Some r.op else op_in rs q.call) ≡ Some q.op
-  by true e = ap Some (one r (at-head r rs) (same-call r.call q.call e))
-  by false e = later e (one-only r q rs there)
+  by : (b : Bool) → same_call r.call q.call ≡ b → (Contains rs q → op_in rs q.call ≡ Some q.op) → (if b then Some r.op else op_in rs q.call) ≡ Some q.op
+  by true e rest = ap Some (one r (at-head r rs) (same-call r.call q.call e))
+  by false e rest = later e rest (one-only r q rs there)
 
 module _ (name : List ℕ) (client : ClientId) (t : ThreadNo) (g : GroupId) where
   told-on : (rs more : List Request) (ends : List End) → ((e : End) → Contains ends e → (o : Op) × (op_in rs e.call ≡ Some o)) → (h : Option HoldRecord) → told_by (rs ++ more) name client t g ends h ≡ told_by rs name client t g ends h
   told-on rs more [] known h = refl
   told-on rs more (e ∷ ends) known h = let k = known e (at-head e ends) in
       ap (λ (o : Option Op). told_by (rs ++ more) name client t g ends (if is_of client t g e then after_request name o e.answer h else h)) (op-on rs more e.call k.0 k.1 ∙ sym k.1)
-      ∙ told-on rs more ends (λ x there. known x (at-tail x e ends there)) (if is_of client t g e then after_request name (op_in rs e.call) e.answer h else h)
+      ∙ told-on rs more ends (λ x there. known x (at-tail e x ends there)) (if is_of client t g e then after_request name (op_in rs e.call) e.answer h else h)
 
   pub told-push : (rs : List Request) (ends : List End) (e : End) (h : Option HoldRecord) → told_by rs name client t g (ends ++ e ∷ []) h
       ≡ (if is_of client t g e then after_request name (op_in rs e.call) e.answer (told_by rs name client t g ends h) else told_by rs name client t g ends h)
@@ -283,10 +282,10 @@ in-front : {X : Type 0} (xs : List X) (n : ℕ) (x : X) → Contains (take n xs)
 in-front [] zero x h = h
 in-front [] (suc n) x h = h
 in-front (y ∷ xs) zero x h = absurd (no-element x h)
-in-front (y ∷ xs) (suc n) x h = by (one-only y x (take n xs) h) where
-  by : (x ≡ y) ⊎ Contains (take n xs) x → Contains (y ∷ xs) x
-  by (inl e) = subst (Contains (y ∷ xs)) (sym e) (at-head y xs)
-  by (inr there) = at-tail x y xs (in-front xs n x there)
+in-front (y ∷ xs) (suc n) x h = by (one-only y x (take n xs) h) (in-front xs n x) where
+  by : (x ≡ y) ⊎ Contains (take n xs) x → (Contains (take n xs) x → Contains xs x) → Contains (y ∷ xs) x
+  by (inl e) rest = subst (Contains (y ∷ xs)) (sym e) (at-head y xs)
+  by (inr there) rest = at-tail y x xs (rest there)
 
 module _ (plan : Plan) (w : World) (good : Good plan w) where
   same-ops : (q : Request) → Contains w.requests q → (r : Request) → Contains w.requests r → r.call ≡ q.call → r.op ≡ q.op
@@ -302,7 +301,7 @@ module _ (plan : Plan) (w : World) (good : Good plan w) (more : List Request) (f
   abbrev NowHas : World → Type 0
   NowHas v = (v.requests ≡ w.requests ++ more) × (v.ends ≡ w.ends ++ fresh)
 
-  ends-on : (v : World) → NowHas v → (r : Returned) → EndsAt w r → EndsAt v r
+  abbrev ends-on : (v : World) → NowHas v → (r : Returned) → EndsAt w r → EndsAt v r
   ends-on v has r h = record {
     end = h.end;
     place = h.place;
@@ -499,10 +498,10 @@ module _ (plan : Plan) (w : World) (request : Invocation) (a : Answer) (good : G
   row y = record { thread = request.thread; number = request.number; ending = ending.Answered y }
 
   module _ (d : Did) where
-    abbrev v : World
-    v = note (client_of request) (mine d) w
+    abbrev u : World
+    u = note (client_of request) (mine d) w
 
-    ends-here : (y : Answer) → EndsAt v (returns_now w (client_of request) (row y))
+    abbrev ends-here : (y : Answer) → EndsAt u (returns_now w (client_of request) (row y))
     ends-here y = record {
       end = e0;
       place = length w.ends;
@@ -514,13 +513,13 @@ module _ (plan : Plan) (w : World) (request : Invocation) (a : Answer) (good : G
       of_end = given.answered.entered.mine;
     }
 
-    before-is : (name : List ℕ) → holds_before v.requests v.ends name e0 (length w.ends) ≡ find lock_cmp c.holds (request.thread.0, 1, name)
+    before-is : (name : List ℕ) → holds_before u.requests u.ends name e0 (length w.ends) ≡ find lock_cmp c.holds (request.thread.0, 1, name)
     before-is name = ap (λ rows. told_by (w.requests ++ map (begins_now w) d.asked) name request.client request.thread default_group rows None) (take-whole w.ends (e0 ∷ []))
         ∙ (told-on name request.client request.thread default_group w.requests (map (begins_now w) d.asked) w.ends (known plan w good) None
         ∙ (ap (λ x. told_by w.requests name x request.thread default_group w.ends None) of-client ∙ sym ((h.clients (client_of request)).held request.thread name)))
 
     abbrev Ret : Answer → Type 0
-    Ret y = Loses v (returns_now w (client_of request) (row y))
+    Ret y = Loses u (returns_now w (client_of request) (row y))
 
     ending-same : {x y : Answer} → ending.Answered x ≡ ending.Answered y → x ≡ y
     ending-same e = cc
@@ -573,7 +572,7 @@ module _ (plan : Plan) (w : World) (request : Invocation) (a : Answer) (good : G
     -- the step as a whole
     pub mine-held : Goal d.client.holds → Rising lock_cmp d.client.holds → ((r : Return) → Contains d.returns r → (y : Answer) × (r ≡ row y) × Ret y) → Held (note (client_of request) (mine d) w)
     mine-held goal rising returns = record {
-      clients = note-client plan w (client_of request) (mine d) (λ y k. HeldBy v y k) me others;
+      clients = note-client plan w (client_of request) (mine d) (λ y k. HeldBy u y k) me others;
       returns = λ r there. at r (Contains-append_cases w.returns (map (returns_now w (client_of request)) d.returns) r there);
     }
       where
@@ -597,7 +596,7 @@ module _ (plan : Plan) (w : World) (request : Invocation) (a : Answer) (good : G
           by true e = absurd (off (replay-same y (client_of request) (sym (ap (λ n. record { 0 = n }) (bytes_same request.client.0 (replay_id y).0 e)) ∙ of-client)))
           by false e = e
 
-        me : HeldBy v (client_of request) d.client
+        me : HeldBy u (client_of request) d.client
         me = record {
           rising = rising;
           held = λ t name. let b = (h.clients (client_of request)).held t name in
@@ -606,16 +605,16 @@ module _ (plan : Plan) (w : World) (request : Invocation) (a : Answer) (good : G
               (told_by w.requests name (replay_id (client_of request)) t default_group w.ends None) mine-client) ∙ sym (pushed (client_of request) t name)));
         }
 
-        others : (y : ClientNo) → (y ≡ client_of request → ⊥) → HeldBy v y (client_at w y)
+        others : (y : ClientNo) → (y ≡ client_of request → ⊥) → HeldBy u y (client_at w y)
         others y off = record {
           rising = (h.clients y).rising;
           held = λ t name. (h.clients y).held t name ∙ (sym (one-false (request.thread.0 == t.0) (same_client request.client (replay_id y)) (after_op name q.op a (told_by w.requests name (replay_id y) t default_group w.ends None)) (told_by w.requests name (replay_id y) t default_group w.ends None) (other-client y off)) ∙ sym (pushed y t name));
         }
 
-        at : (r : Returned) → Contains w.returns r ⊎ Contains (map (returns_now w (client_of request)) d.returns) r → Loses v r
-        at r (inl there) = loses-on plan w good (map (begins_now w) d.asked) (e0 ∷ []) v (refl, refl) r (h.returns r there)
+        at : (r : Returned) → Contains w.returns r ⊎ Contains (map (returns_now w (client_of request)) d.returns) r → Loses u r
+        at r (inl there) = loses-on plan w good (map (begins_now w) d.asked) (e0 ∷ []) u (refl, refl) r (h.returns r there)
         at r (inr there) = let y = mapped (returns_now w (client_of request)) d.returns r there in let x = returns y.0 y.1 in
-            subst (Loses v) (sym (y.2 ∙ ap (returns_now w (client_of request)) x.1)) x.2
+            subst (Loses u) (sym (y.2 ∙ ap (returns_now w (client_of request)) x.1)) x.2
 
   -- what a call that ends leaves
   finished-held : (now : Pending) (o : UserOp) (p : Purpose) → now.group ≡ group_of o → PurposeOk plan (ledger_of w) (client_of request) request (task.Calls o) p
@@ -758,26 +757,27 @@ Both w = Seen w (openings w) × Held w
 abbrev Between : World → Type 0
 Between w = Seen w (openings_in w.effects) × Held w
 
+-- an end in another world of the same rows
+abbrev at-on : (w v : World) → v.requests ≡ w.requests → v.ends ≡ w.ends → (r : Returned) → EndsAt w r → EndsAt v r
+at-on w v requests ends r x = record { end = x.end; place = x.place; stands = subst (λ rows. slice_get rows x.place ≡ Some x.end) (sym ends) x.stands; here = x.here; call_is = x.call_is; request = x.request; began = subst (λ rows. Contains rows x.request) (sym requests) x.began; of_end = x.of_end }
+
 held-same-world : (w v : World) → v.clients ≡ w.clients → v.requests ≡ w.requests → v.ends ≡ w.ends → v.returns ≡ w.returns → Held w → Held v
 held-same-world w v clients requests ends returns h = record {
   clients = λ me. subst (λ rows. HeldBy v me (or_new (find nat_cmp rows me.0))) (sym clients) (record { rising = (h.clients me).rising; held = λ t name. (h.clients me).held t name ∙ sym (ap (λ rows. told_by rows name (replay_id me) t default_group v.ends None) requests ∙ ap (λ rows. told_by w.requests name (replay_id me) t default_group rows None) ends) });
   returns = λ r there. loses r (h.returns r (subst (λ rows. Contains rows r) returns there));
 }
   where
-    at-on : (r : Returned) → EndsAt w r → EndsAt v r
-    at-on r x = record { end = x.end; place = x.place; stands = subst (λ rows. slice_get rows x.place ≡ Some x.end) (sym ends) x.stands; here = x.here; call_is = x.call_is; request = x.request; began = subst (λ rows. Contains rows x.request) (sym requests) x.began; of_end = x.of_end }
-
     before : (name : List ℕ) (e : End) (place : ℕ) → holds_before v.requests v.ends name e place ≡ holds_before w.requests w.ends name e place
     before name e place = ap (λ rows. holds_before rows v.ends name e place) requests ∙ ap (λ rows. holds_before w.requests rows name e place) ends
 
     loses : (r : Returned) → Loses w r → Loses v r
     loses r x = record { lost = λ e. lost (x.lost e); kept = λ n e. kept (x.kept n e) } where
       lost : Lost w r ⊎ ((at : EndsAt w r) × (at.end.answer ≡ answer.OwnershipLost)) → Lost v r ⊎ ((at : EndsAt v r) × (at.end.answer ≡ answer.OwnershipLost))
-      lost (inr y) = inr (at-on r y.0, y.1)
-      lost (inl l) = inl (record { at = at-on r l.at; expired = l.expired; says = l.says; name = l.name; what = l.what; on_lock = l.on_lock; session = l.session; in_session = l.in_session; held = l.held; told = before l.name l.at.end l.at.place ∙ l.told })
+      lost (inr y) = inr (at-on w v requests ends r y.0, y.1)
+      lost (inl l) = inl (record { at = at-on w v requests ends r l.at; expired = l.expired; says = l.says; name = l.name; what = l.what; on_lock = l.on_lock; session = l.session; in_session = l.in_session; held = l.held; told = before l.name l.at.end l.at.place ∙ l.told })
 
       kept : HeldNone w r → HeldNone v r
-      kept k = (at-on r k.0, λ name what s on_lock in_session. before name k.0.end k.0.place ∙ k.1 name what s on_lock in_session)
+      kept k = (at-on w v requests ends r k.0, λ name what s on_lock in_session. before name k.0.end k.0.place ∙ k.1 name what s on_lock in_session)
 
 both-served : (plan : Plan) → IsServed plan Both Between
 both-served plan = let k = seen-served plan in record {
@@ -797,8 +797,12 @@ both-served plan = let k = seen-served plan in record {
   closes = λ w h. (k.closes w h.0, held-same-world w (close w) refl refl refl refl h.1);
 }
 
+rising-none : Rising {X = HoldRecord} lock_cmp []
+unfolding IsStrictlySortedBy
+rising-none = tt
+
 none-held : Held new_world
-none-held = record { clients = λ me. record { rising = tt; held = λ t name. refl }; returns = λ r there. absurd (no-element r there) }
+none-held = record { clients = λ me. record { rising = rising-none; held = λ t name. refl }; returns = λ r there. absurd (no-element r there) }
 
 pub all-held : (plan : Plan) (events : List Event) → Seen (world_after plan new_world events) (openings_in (world_after plan new_world events).effects) × Held (world_after plan new_world events)
 all-held plan events = all-served plan Both Between (both-served plan) events (none-seen, none-held)

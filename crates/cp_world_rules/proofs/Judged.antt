@@ -28,7 +28,7 @@ use Rattle.cp_world_rules.specs.World.{World, begin, begins_now, calls_if_idle, 
 use Rattle.cp_world_rules.specs.Execution.{Execution, executed, returns_in}
 use Rattle.cp_world_rules.specs.Returns.{clock_after, moved_by, request_of}
 use Rattle.cp_world_rules.specs.Prompt.{CallIsIgnored, IsBusy, IsClockBefore, IsIgnoredSo, IsOver, TickIsIgnored, ended, returned, went_on}
-use Rattle.cp_world_rules.proofs.Lists.{get-append, get-some, one-there, push-none}
+use Rattle.cp_world_rules.proofs.Lists.{get-append, get-right, get-some, one-there, push-none}
 use Rattle.cp_world_rules.proofs.Walking.{IsBetween, IsHanded, IsKept, IsKeptBetween, between-after, does-kept, event-kept, from-kept, handed-kept}
 use Rattle.cp_world_rules.proofs.Printed.{Printed, clock_of, printed-next}
 use Rattle.cp_world_rules.proofs.Settled.{RestsAfter, step-rests}
@@ -75,15 +75,15 @@ not-less a b h = grind (arith, nat_tests)
 module _ (plan : Plan) where
   call-judged : (c : ClientNo) (t : ThreadNo) (o : UserOp) (w : World) → is_client plan c ≡ true → (now : Option Pending) → (thread_at (client_at w c) t).pending ≡ now
       → JudgedCall plan w c t (calls_if_idle plan c t o now (start (event.Call c t o) w)).shown.ignored
-  call-judged c t o w yes None is = subst (JudgedCall plan w c t) (sym (does-kept plan (IgnoredIs None) (ignored-handed None) c (call_client plan (replay_id c) t o (client_at w c))
-      (record (start (event.Call c t o) w) { calls = w.calls ++ record { event = length w.effects; client = c; thread = t; op = o; clock = (client_at w c).clock } ∷ [] }) refl)) (yes, is)
-  call-judged c t o w yes (Some now) is = (yes, (now, is), refl)
+  call-judged c t o w client None is = subst (JudgedCall plan w c t) (sym (does-kept plan (IgnoredIs None) (ignored-handed None) c (call_client plan (replay_id c) t o (client_at w c))
+      (record (start (event.Call c t o) w) { calls = w.calls ++ record { event = length w.effects; client = c; thread = t; op = o; clock = (client_at w c).clock } ∷ [] }) refl)) (client, is)
+  call-judged c t o w client (Some now) is = (client, (now, is), refl)
 
   tick-judged : (c : ClientNo) (ms : ℕ) (w : World) → is_client plan c ≡ true → JudgedTick plan w c ms (moves_if_room c ms (start (event.ClientTick c ms) w)).shown.ignored
-  tick-judged c ms w yes = cases (λ (v : World). JudgedTick plan w c ms v.shown.ignored) (nat_lt LAST_NUMBER ((client_at w c).clock + ms)) _ _
-      (λ e. (yes, refl, less-than LAST_NUMBER ((client_at w c).clock + ms) e))
+  tick-judged c ms w client = cases (λ (v : World). JudgedTick plan w c ms v.shown.ignored) (nat_lt LAST_NUMBER ((client_at w c).clock + ms)) _ _
+      (λ e. (client, refl, less-than LAST_NUMBER ((client_at w c).clock + ms) e))
       (λ e. subst (JudgedTick plan w c ms) (sym (does-kept plan (IgnoredIs None) (ignored-handed None) c (tick_client (replay_id c) ms (client_at w c))
-      (record (start (event.ClientTick c ms) w) { moves = w.moves ++ record { event = length w.effects; client = c; ms = ms; clock = (client_at w c).clock + ms } ∷ [] }) refl)) (yes, not-less LAST_NUMBER ((client_at w c).clock + ms) e))
+      (record (start (event.ClientTick c ms) w) { moves = w.moves ++ record { event = length w.effects; client = c; ms = ms; clock = (client_at w c).clock + ms } ∷ [] }) refl)) (client, not-less LAST_NUMBER ((client_at w c).clock + ms) e))
 
   begin-judged : (e : Event) (w : World) → Judged plan w e (begin plan e (start e w)).shown.ignored
   begin-judged (event.Call c t o) w = cases (λ (v : World). JudgedCall plan w c t v.shown.ignored) (is_client plan c) _ _ (λ e. call-judged c t o w e (thread_at (client_at w c) t).pending refl) (λ e. e)
@@ -182,7 +182,9 @@ fronted-kept effects = record {
 -- ---- clocks
 
 clock-append : (me : ClientNo) (n : ℕ) (xs ys : List Effects) → clock_after me n (xs ++ ys) ≡ clock_after me n xs + clock_after me n ys
-clock-append me n [] ys = refl
+clock-append me n [] ys = plus (clock_after me n ys) where
+  plus : (k : ℕ) → k ≡ 0 + k
+  plus k = omega arith
 clock-append me n (x ∷ xs) ys = let e = clock-append me n xs ys in sums (if nat_le x.number n && is_none x.ignored then moved_by me x.event else 0) (clock_after me n (xs ++ ys)) (clock_after me n xs) (clock_after me n ys) e where
   sums : (a b c k : ℕ) → b ≡ c + k → a + b ≡ a + c + k
   sums a b c k h = omega (arith, h)
@@ -190,10 +192,13 @@ clock-append me n (x ∷ xs) ys = let e = clock-append me n xs ys in sums (if na
 clock-none : (me : ClientNo) (n from : ℕ) (ys : List Effects) → n < from → ((k : ℕ) (y : Effects) → slice_get ys k ≡ Some y → y.number ≡ from + k) → clock_after me n ys ≡ 0
 clock-none me n from [] l all = refl
 clock-none me n from (y ∷ ys) l all = let first = all 0 y refl in let rest = clock-none me n (from + 1) ys (omega (arith, l)) (λ k x is. let e = all (suc k) x is in turn k x.number e) in
-    rw (no-le y.number n (omega (arith, first, l))) rest
+    rw (no-le y.number n (omega (arith, first, l))) (zero-and (clock_after me n ys) rest)
   where
     no-le : (a b : ℕ) → b < a → nat_le a b ≡ false
     no-le a b h = grind (arith, nat_tests)
+
+    zero-and : (k : ℕ) → k ≡ 0 → 0 + k ≡ 0
+    zero-and k e = omega (arith, e)
 
     turn : (k m : ℕ) → m ≡ from + suc k → m ≡ from + 1 + k
     turn k m h = omega (arith, h)
@@ -272,12 +277,8 @@ module _ (plan : Plan) (w : World) (s : Sound plan w) (v : World) (later : Later
       plus : (a b : ℕ) → b ≡ 0 → a + b ≡ a
       plus a b h = omega (arith, h)
 
-      behind : {X : Type 0} (xs ys : List X) (k : ℕ) (x : X) → slice_get ys k ≡ Some x → slice_get (xs ++ ys) (length xs + k) ≡ Some x
-      behind [] ys k x is = is
-      behind (y ∷ xs) ys k x is = behind xs ys k x is
-
       rest-numbers : (k : ℕ) (y : Effects) → slice_get rest k ≡ Some y → y.number ≡ number + k
-      rest-numbers k y is = numbers (number + k) y (subst (λ rows. slice_get rows (number + k) ≡ Some y) (sym front) (behind w.effects rest k y is))
+      rest-numbers k y is = numbers (number + k) y (subst (λ rows. slice_get rows (number + k) ≡ Some y) (sym front) (get-right w.effects rest k (number + k) y refl is))
 
     call-so : (c : ClientNo) (t : ThreadNo) (cause : Option Ignored) → JudgedCall plan w c t cause → CallIsIgnored plan (executed v) number c t cause
     call-so c t None h = (h.0, λ n busy. idle-then c t h.1 n busy)
@@ -323,54 +324,55 @@ module _ (plan : Plan) where
 
   from-now : (n : ℕ) (past events : List Event) (w v : World) → world_after plan w events ≡ v → RestsAfter plan n w → Sound plan w → Printed past w → Printed (past ++ events) v → FromNow w v
   from-now n past [] w v same rest s p q number shown l is = let k = get-in v.effects number shown is in let e = ap (λ (x : World). length x.effects) same in absurd (omega (arith, l, k, e))
-  from-now n past (e ∷ events) w v same rest s p q number shown l is = by (at-most number (length w.effects)) where
-    step : World
-    step = world_step plan w e
+  from-now n past (e ∷ events) w v same rest s p q number shown l is = by (at-most number (length w.effects)) (from-now (n + 1) (past ++ e ∷ []) events (world_step plan w e) v same (step-rests plan n e w rest) (step-sound plan e w rest.queue s)
+      (printed-next plan past e w p) (subst (λ es. Printed es v) (sym (append_assoc past (e ∷ []) events)) q))
+    where
+      step : World
+      step = world_step plan w e
 
-    now_shown : Effects
-    now_shown = (handed plan (handed plan (begin plan e (start e w)))).shown
+      now_shown : Effects
+      now_shown = (handed plan (handed plan (begin plan e (start e w)))).shown
 
-    at-most : (a b : ℕ) → (a ≡ b) ⊎ ((b + 1 ≤ a) ⊎ (a < b))
-    at-most a b = first (nat_lt a b) refl where
-      second : (t : Bool) → nat_lt b a ≡ t → b ≤ a → (a ≡ b) ⊎ ((b + 1 ≤ a) ⊎ (a < b))
-      second true h m = let k = less-than b a h in inr (inl (omega (arith, k)))
-      second false h m = let k = not-less b a h in inl (omega (arith, k, m))
+      at-most : (a b : ℕ) → (a ≡ b) ⊎ ((b + 1 ≤ a) ⊎ (a < b))
+      at-most a b = first (nat_lt a b) refl where
+        second : (t : Bool) → nat_lt b a ≡ t → b ≤ a → (a ≡ b) ⊎ ((b + 1 ≤ a) ⊎ (a < b))
+        second true h m = let k = less-than b a h in inr (inl (omega (arith, k)))
+        second false h m = let k = not-less b a h in inl (omega (arith, k, m))
 
-      first : (t : Bool) → nat_lt a b ≡ t → (a ≡ b) ⊎ ((b + 1 ≤ a) ⊎ (a < b))
-      first true h = inr (inr (less-than a b h))
-      first false h = second (nat_lt b a) refl (not-less a b h)
+        first : (t : Bool) → nat_lt a b ≡ t → (a ≡ b) ⊎ ((b + 1 ≤ a) ⊎ (a < b))
+        first true h = inr (inr (less-than a b h))
+        first false h = second (nat_lt b a) refl (not-less a b h)
 
-    later : Later w v
-    later = subst (Later w) same (later-all w plan e events)
+      later : Later w v
+      later = subst (Later w) same (later-all w plan e events)
 
-    front_now : Fronted (world_step plan w e).effects v
-    front_now = subst (Fronted (world_step plan w e).effects) same (from-kept plan (Fronted (world_step plan w e).effects) (fronted-kept (world_step plan w e).effects) events (world_step plan w e) (between-after plan e w) ([], sym (push-none (world_step plan w e).effects [] refl)))
+      front_now : Fronted (world_step plan w e).effects v
+      front_now = subst (Fronted (world_step plan w e).effects) same (from-kept plan (Fronted (world_step plan w e).effects) (fronted-kept (world_step plan w e).effects) events (world_step plan w e) (between-after plan e w) ([], sym (push-none (world_step plan w e).effects [] refl)))
 
-    effects_now : (world_step plan w e).effects ≡ w.effects ++ now_shown ∷ []
-    effects_now = ap (λ rows. rows ++ now_shown ∷ []) (event-kept plan (λ x. x.effects ≡ w.effects) (record { steps = record { notes = λ me d x h. h; commits = λ a x h. h; empties = λ x h. h }; ignores = λ cause x h. h; calls = λ c x h. h; moves = λ m x h. h }) e w refl)
+      effects_now : (world_step plan w e).effects ≡ w.effects ++ now_shown ∷ []
+      effects_now = ap (λ rows. rows ++ now_shown ∷ []) (event-kept plan (λ x. x.effects ≡ w.effects) (record { steps = record { notes = λ me d x h. h; commits = λ a x h. h; empties = λ x h. h }; ignores = λ cause x h. h; calls = λ c x h. h; moves = λ m x h. h }) e w refl)
 
-    all_effects : v.effects ≡ w.effects ++ (now_shown ∷ front_now.0)
-    all_effects = front_now.1 ∙ (ap (λ rows. rows ++ front_now.0) effects_now ∙ append_assoc w.effects (now_shown ∷ []) front_now.0)
+      all_effects : v.effects ≡ w.effects ++ (now_shown ∷ front_now.0)
+      all_effects = front_now.1 ∙ (ap (λ rows. rows ++ front_now.0) effects_now ∙ append_assoc w.effects (now_shown ∷ []) front_now.0)
 
-    event_is : now_shown.event ≡ e
-    event_is = event-kept plan (λ x. x.shown.event ≡ e) (record { steps = record { notes = λ me d x h. h; commits = λ a x h. h; empties = λ x h. h }; ignores = λ cause x h. h; calls = λ c x h. h; moves = λ m x h. h }) e w refl
+      event_is : now_shown.event ≡ e
+      event_is = event-kept plan (λ x. x.shown.event ≡ e) (record { steps = record { notes = λ me d x h. h; commits = λ a x h. h; empties = λ x h. h }; ignores = λ cause x h. h; calls = λ c x h. h; moves = λ m x h. h }) e w refl
 
-    here : IsIgnoredSo plan (executed v) (length w.effects) now_shown.event now_shown.ignored
-    here = subst (λ x. IsIgnoredSo plan (executed v) (length w.effects) x now_shown.ignored) (sym event_is)
-        (ignored-so plan w s v later p.clocks (now_shown ∷ front_now.0) all_effects q.returns q.numbers e now_shown.ignored (shown-judged plan e w))
+      here : IsIgnoredSo plan (executed v) (length w.effects) now_shown.event now_shown.ignored
+      here = subst (λ x. IsIgnoredSo plan (executed v) (length w.effects) x now_shown.ignored) (sym event_is)
+          (ignored-so plan w s v later p.clocks (now_shown ∷ front_now.0) all_effects q.returns q.numbers e now_shown.ignored (shown-judged plan e w))
 
-    at : slice_get (w.effects ++ (now_shown ∷ front_now.0)) (length w.effects) ≡ Some now_shown
-    at = subst (λ rows. slice_get rows (length w.effects) ≡ Some now_shown) (append_assoc w.effects (now_shown ∷ []) front_now.0) (get-left (w.effects ++ now_shown ∷ []) front_now.0 (length w.effects) now_shown (get-last w.effects now_shown))
+      at : slice_get (w.effects ++ (now_shown ∷ front_now.0)) (length w.effects) ≡ Some now_shown
+      at = subst (λ rows. slice_get rows (length w.effects) ≡ Some now_shown) (append_assoc w.effects (now_shown ∷ []) front_now.0) (get-left (w.effects ++ now_shown ∷ []) front_now.0 (length w.effects) now_shown (get-last w.effects now_shown))
 
-    by : (number ≡ length w.effects) ⊎ ((length w.effects + 1 ≤ number) ⊎ (number < length w.effects)) → IsIgnoredSo plan (executed v) number shown.event shown.ignored
-    by (inl k) = subst (λ m. IsIgnoredSo plan (executed v) m shown.event shown.ignored) (sym k) (subst (λ (x : Effects). IsIgnoredSo plan (executed v) (length w.effects) x.event x.ignored) same_shown here) where
-      same_shown : now_shown ≡ shown
-      same_shown = some (sym at ∙ (ap (λ rows. slice_get rows (length w.effects)) (sym all_effects) ∙ (ap (slice_get v.effects) (sym k) ∙ is))) where
-        some : Some now_shown ≡ Some shown → now_shown ≡ shown
-        some r = cc
-    by (inr (inl k)) = from-now (n + 1) (past ++ e ∷ []) events (world_step plan w e) v same (step-rests plan n e w rest) (step-sound plan e w rest.queue s) (printed-next plan past e w p) (subst (λ es. Printed es v) (sym (append_assoc past (e ∷ []) events)) q)
-        number shown (let m = ap (λ (rows : List Effects). length rows) effects_now in let j = length_push w.effects now_shown in omega (arith, k, m, j)) is
-    by (inr (inr k)) = absurd (omega (arith, k, l))
+      by : (number ≡ length w.effects) ⊎ ((length w.effects + 1 ≤ number) ⊎ (number < length w.effects)) → FromNow (world_step plan w e) v → IsIgnoredSo plan (executed v) number shown.event shown.ignored
+      by (inl k) next = subst (λ m. IsIgnoredSo plan (executed v) m shown.event shown.ignored) (sym k) (subst (λ (x : Effects). IsIgnoredSo plan (executed v) (length w.effects) x.event x.ignored) same_shown here) where
+        same_shown : now_shown ≡ shown
+        same_shown = some (sym at ∙ (ap (λ rows. slice_get rows (length w.effects)) (sym all_effects) ∙ (ap (slice_get v.effects) (sym k) ∙ is))) where
+          some : Some now_shown ≡ Some shown → now_shown ≡ shown
+          some r = cc
+      by (inr (inl k)) next = next number shown (let m = ap (λ (rows : List Effects). length rows) effects_now in let j = length_push w.effects now_shown in omega (arith, k, m, j)) is
+      by (inr (inr k)) next = absurd (omega (arith, k, l))
 
   -- all events, event 0 too
   pub all-ignored : (events : List Event) → RestsAfter plan 0 new_world → Sound plan new_world → Printed [] new_world → Printed events (world_after plan new_world events) → (number : ℕ) (shown : Effects) → slice_get (world_after plan new_world events).effects number ≡ Some shown

@@ -46,7 +46,7 @@ use Rattle.cp_world_rules.specs.Execution.{Execution, Outcomes, events_of, execu
 use Rattle.cp_world_rules.specs.Requests.{AsksItselfOnce, CallsStand, EndsOnce, IsBeat, IsCallOf, IsCallOfReturn, IsForItself, IsLastNumber, IsRequestOfCall, MayAsk, ReturnsOnce, TookPlace}
 use Rattle.cp_world_rules.specs.Entries.{EntriesAreAsked, HistoriesStand, HistoryIsGood, IsLengthAt, IsOfRequest, IsOwnEntry, LengthsAreTrue, RowsAreInOrder}
 use Rattle.cp_world_rules.specs.Answers.{GoesOn, IsAnswered, IsCommittedAt, lets_go_on}
-use Rattle.cp_world_rules.specs.Returns.{EndedHere, IsTold, LostOwnership, PassedDeadline, answered, at_once, clock_after, late, lost}
+use Rattle.cp_world_rules.specs.Returns.{EndedHere, IsTold, LostOwnership, PassedDeadline, answered, at_once, clock_after, late, lost, request_of}
 use Rattle.cp_world_rules.specs.Holding.{holds_before}
 use Rattle.cp_group_state.specs.Protected.{session_in}
 use Rattle.cp_world_rules.specs.Telling.{EventsTell, FollowsLines, IsOpening, IsReturnOf, StandFor, StandsOpened}
@@ -366,7 +366,7 @@ module _ (plan : Plan) (events : List Event) (w : World) (sound : Sound plan w) 
 
     asks : ((q : Request) × desks.IsAsked plan w.requests r c q) ⊎ ((r.what.ending ≡ ending.Answered answer.Ok) × ((q : Request) → Contains w.requests q → Owns r.client r.what.thread q.call → c.event ≤ q.event → IsOther w.calls c.event q))
         → ((q : Request) × Contains w.requests q × IsRequestOfCall plan (executed w) q c × (q.call.number ≡ r.what.number)) ⊎ ((r.what.ending ≡ ending.Answered answer.Ok) × ((q : Request) → Contains w.requests q → IsRequestOfCall plan (executed w) q c → ⊥))
-    asks (inl h) = inl (h.0, h.1, of-last r c h.0 last h.2 h.4 h.5 h.6, h.3)
+    asks (inl h) = inl (h.0, h.1.0, of-last r c h.0 last h.1.1 h.1.3 h.1.4 h.1.5, h.1.2)
     asks (inr h) = inr (h.0, λ q there of. no-other c q of (h.1 q there (mine-of r c q last of) of.last.by_then))
 
   returns-once : ReturnsOnce plan (executed w)
@@ -447,12 +447,9 @@ module _ (plan : Plan) (events : List Event) (w : World) (sound : Sound plan w) 
   no-going-lost (op.Latch name latch.Round) = refl
   no-going-lost o = refl
 
-  here-at : (r : Returned) → EndsAt w r → EndedHere plan (executed w) r
-  here-at r at = record { end = at.end; ended = get-contains w.ends at.place at.end at.stands; here = at.here; call_is = at.call_is; request = at.request; began = at.began; of_call = at.of_end ∙ at.call_is }
-
   lost-told : (r : Returned) → r.what.ending ≡ ending.Answered answer.OwnershipLost → Lost w r ⊎ ((at : EndsAt w r) × (at.end.answer ≡ answer.OwnershipLost)) → Told r
-  lost-told r ends (inl l) = lost ends (record { here = here-at r l.at; expired = l.expired; says = l.says; lock = l.name; what = l.what; on_lock = l.on_lock; session = l.session; in_session = l.in_session; place = l.at.place; at_place = l.at.stands; held = l.held; told = l.told })
-  lost-told r ends (inr x) = answered answer.OwnershipLost ends (record { here = here-at r x.0; answer_is = x.1; last = no-going-lost x.0.request.op })
+  lost-told r ends (inl l) = lost ends (record { here = record { end = l.at.end; ended = get-contains w.ends l.at.place l.at.end l.at.stands; here = l.at.here; call_is = l.at.call_is; request = l.at.request; began = l.at.began; of_call = l.at.of_end ∙ l.at.call_is }; expired = l.expired; says = l.says; lock = l.name; what = l.what; on_lock = l.on_lock; session = l.session; in_session = l.in_session; place = l.at.place; at_place = l.at.stands; held = l.held; told = l.told })
+  lost-told r ends (inr x) = answered answer.OwnershipLost ends (record { here = record { end = x.0.end; ended = get-contains w.ends x.0.place x.0.end x.0.stands; here = x.0.here; call_is = x.0.call_is; request = x.0.request; began = x.0.began; of_call = x.0.of_end ∙ x.0.call_is }; answer_is = x.1; last = no-going-lost x.0.request.op })
       (not-lost r x.0.end (get-contains w.ends x.0.place x.0.end x.0.stands) x.0.call_is (λ n says. loss-expired (sym x.1 ∙ says)))
 
   past-told : (r : Returned) → Contains w.returns r → r.what.ending ≡ ending.Answered (answer.Indeterminate ended_by.Deadline) → (c : Called) → IsLast w.calls r.client r.what.thread r.event c → IsNumbered plan (book_of w) r c → Tells w.ends w.moves r c → Told r
@@ -469,9 +466,9 @@ module _ (plan : Plan) (events : List Event) (w : World) (sound : Sound plan w) 
     by (inl x) = record {
       call = c;
       request = x.0;
-      began = x.1;
-      asked = of-last r c x.0 last x.2 x.4 x.5 x.6;
-      number_is = x.3;
+      began = x.1.0;
+      asked = of-last r c x.0 last x.1.1 x.1.3 x.1.4 x.1.5;
+      number_is = x.1.2;
       call_is = call-of r.client r.what.thread r.event c last;
       ms = m.ms;
       ticked = took r.event (event.ClientTick r.client m.ms) (subst (λ k. Stands w.effects k (event.ClientTick r.client m.ms)) at (subst (λ me. Stands w.effects m.event (event.ClientTick me m.ms)) mine (printed.moves m in_m)));
@@ -547,12 +544,12 @@ module _ (plan : Plan) (events : List Event) (w : World) (sound : Sound plan w) 
       let p = at.1 in let i = b.3 in let place : at.0 ≡ b.0 = omega (arith, p, i) in
       by (gone.gone b.0 c b.1 (g.call, g.answer) (subst (λ rows. slice_get rows b.0 ≡ Some c) (default-rows w) (subst (λ n. slice_get (history (executed w) default_group) n ≡ Some c) place at.2)) b.2 b.4)
     where
-      by : OverBy w.requests w.ends w.returns c.event g.call ⊎ ((Contains [] (g.call, g.answer) ⊎ Contains w.queue (g.call, g.answer)) × (c.event ≡ w.shown.number)) → IsOver (executed w) c.event g.call
+      by : OverBy w.requests w.ends w.returns c.event g.call ⊎ ((Contains {X = Invocation × Answer} [] (g.call, g.answer) ⊎ Contains w.queue (g.call, g.answer)) × (c.event ≡ w.shown.number)) → IsOver (executed w) c.event g.call
       by (inl (ended_by e in_e same by_then)) = ended e in_e same by_then
       by (inl (returned_by r in_r same by_then)) = prompt.returned r (subst (λ rows. Contains rows r) printed.returns in_r) same by_then
       by (inl (gone_on_by q in_q own client thread less by_then)) = went_on q in_q own client thread less by_then
       by (inr q) = waits q.0 where
-        waits : Contains [] (g.call, g.answer) ⊎ Contains w.queue (g.call, g.answer) → IsOver (executed w) c.event g.call
+        waits : Contains {X = Invocation × Answer} [] (g.call, g.answer) ⊎ Contains w.queue (g.call, g.answer) → IsOver (executed w) c.event g.call
         waits (inl k) = absurd (no-element (g.call, g.answer) k)
         waits (inr k) = absurd (no-element (g.call, g.answer) (subst (λ rows. Contains rows (g.call, g.answer)) over k))
 
@@ -570,7 +567,7 @@ module _ (plan : Plan) (events : List Event) (w : World) (sound : Sound plan w) 
     calls = calls-stand;
     requests = sourced;
     itself_once = itself-once;
-    numbers = good.distinct;
+    numbers = good.rising;
     answers = λ e there. inl (answered-so orderly e there);
     ends_once = ends-once;
     goes_on = goes-on;

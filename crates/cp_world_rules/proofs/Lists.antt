@@ -91,6 +91,19 @@ pub push-none : {X : Type 0} (xs ys : List X) → ys ≡ [] → xs ++ ys ≡ xs
 push-none [] ys e = e
 push-none (x ∷ xs) ys e = ap (λ rest. x ∷ rest) (push-none xs ys e)
 
+-- an element of what stands behind, and one of the front
+pub get-right : {X : Type 0} (xs ys : List X) (k j : ℕ) (y : X) → j ≡ length xs + k → slice_get ys k ≡ Some y → slice_get (xs ++ ys) j ≡ Some y
+get-right [] ys k j y e h = subst (λ n. slice_get ys n ≡ Some y) (sym (same j k e)) h where
+  same : (a b : ℕ) → a ≡ 0 + b → a ≡ b
+  same a b e = omega (arith, e)
+get-right (x ∷ xs) ys k zero y e h = absurd (omega (arith, e))
+get-right (x ∷ xs) ys k (suc j) y e h = get-right xs ys k j y (omega (arith, e)) h
+
+pub get-left-at : {X : Type 0} (xs ys : List X) (k : ℕ) (x : X) → slice_get xs k ≡ Some x → slice_get (xs ++ ys) k ≡ Some x
+get-left-at [] ys k x h = absurd (none_some h)
+get-left-at (y ∷ xs) ys zero x h = h
+get-left-at (y ∷ xs) ys (suc k) x h = get-left-at xs ys k x h
+
 -- entries
 pub entries-more : (history more : List Committed) → entries_of (history ++ more) ≡ entries_of history ++ entries_of more
 entries-more history more = map-append (λ (c : Committed). c.entry) history more

@@ -35,7 +35,7 @@ use Rattle.cp_client_rules.specs.Calls.{patience}
 use Rattle.cp_world_rules.specs.Rows.{Called, Committed, End, Opening, Request, Returned, entries_of}
 use Rattle.cp_world_rules.specs.Execution.{Execution, history}
 use Rattle.cp_world_rules.specs.Orders.{IsFullyOrderly}
-use Rattle.cp_world_rules.specs.Requests.{AsksItselfOnce, CallsStand, EndsOnce, IsBeat, IsCallOf, IsForItself, IsForNeed, IsRequestOfCall, MayAsk, NumbersApart, Requested, ReturnsOnce}
+use Rattle.cp_world_rules.specs.Requests.{AsksItselfOnce, CallsStand, EndsOnce, IsBeat, IsCallOf, IsForItself, IsForNeed, IsRequestOfCall, MayAsk, NumbersRise, Requested, ReturnsOnce}
 use Rattle.cp_world_rules.specs.Entries.{EntriesAreAsked, EventsRise, HistoriesStand, IsOfRequest, IsOwnEntry, LengthsAreTrue, NamesOwnSessions, RowsAreInOrder}
 use Rattle.cp_world_rules.specs.Answers.{AllAnswered, GoesOn, IsAnswered, IsOfEndedGroup, lets_go_on}
 use Rattle.cp_world_rules.specs.Holding.{holds_before}
@@ -131,8 +131,8 @@ asked_twice h = let e = h 0 1 (asks 1 0 1 add) (asks 1 1 2 add) (makes 1 increme
   of : (q : Request) → q.event ≡ 1 → q.call.client ≡ (invocation 1 1).client → q.call.thread ≡ thread → q.op ≡ add → IsRequestOfCall one_client asks_twice q (makes 1 increments)
   of q at mine of_thread is = record { last = only-call asks_twice (makes 1 increments) q.event refl (omega (arith, at)); by_client = mine; by_thread = of_thread; asks = inl (0, 0, is) }
 
-number_twice : NumbersApart takes_a_number_twice.requests → ⊥
-number_twice h = let e = h 0 1 (asks 1 0 1 get) (asks 2 1 1 get) refl refl refl in absurd (omega (arith, e))
+number_twice : NumbersRise takes_a_number_twice.requests → ⊥
+number_twice h = let l = h 0 1 (asks 1 0 1 get) (asks 2 1 1 get) (omega arith) refl refl refl refl in absurd (omega (arith, l))
 
 -- without members each answer is of an entry
 only-answered : (x : Execution) (e : End) → IsAnswered x e ⊎ IsOfEndedGroup one_client x e → IsAnswered x e
@@ -143,7 +143,7 @@ nobody : AllAnswered one_client answers_nobody → ⊥
 nobody h = let a = only-answered answers_nobody (is_told 1 1 2 zero_is) (h (is_told 1 1 2 zero_is) (at-head (is_told 1 1 2 zero_is) [])) in
     let e = ap (λ (z : Request). z.call.number) (one-is (asks 1 0 1 get) a.request a.began) in let k = ap (λ (z : Invocation). z.number) a.call_is in absurd (omega (arith, e, k))
 
-value-of : Answer → ℤ
+abbrev value-of : Answer → ℤ
 value-of (answer.Value v) = v
 value-of a = pos 0
 
@@ -275,7 +275,7 @@ lost-ok e = cc
 lost-late : ending.Answered answer.OwnershipLost ≡ ending.Answered (answer.Indeterminate ended_by.Deadline) → ⊥
 lost-late e = cc
 
-name-of : Op → List ℕ
+abbrev name-of : Op → List ℕ
 name-of (op.Lock n o) = n
 name-of o = []
 
@@ -380,10 +380,10 @@ late-ok e = cc
 
 -- where no request ended, only a deadline can be told
 only-late : (x : Execution) (number n : ℕ) → x.ends ≡ [] → (PassedDeadline one_client x (late_row number n) → ⊥) → IsTold one_client x (late_row number n) → ⊥
-only-late x number n none no (answered a e t kept) = no-element t.here.end (subst (λ rows. Contains rows t.here.end) none t.here.ended)
-only-late x number n none no (lost e t) = late-lost e
-only-late x number n none no (at_once e t) = late-ok e
-only-late x number n none no (late e t) = no t
+only-late x number n none never (answered a e t kept) = no-element t.here.end (subst (λ rows. Contains rows t.here.end) none t.here.ended)
+only-late x number n none never (lost e t) = late-lost e
+only-late x number n none never (at_once e t) = late-ok e
+only-late x number n none never (late e t) = never t
 
 early : AllReturnsTell one_client gives_up_early → ⊥
 early h = only-late gives_up_early 2 1 refl no (h (late_row 2 1) (at-head (late_row 2 1) [])) where

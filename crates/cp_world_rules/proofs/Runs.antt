@@ -68,6 +68,7 @@ module _ (plan : Plan) where
     clients_are = good.clients_are;
     numbers = good.numbers;
     distinct = good.distinct;
+    rising = good.rising;
     entered = good.entered;
     sources = λ r h. source-on (ledger_of w) (ledger_of (start e w)) more plan r (good.sources r h);
     returns = λ r h. told-on (ledger_of w) (ledger_of (start e w)) more r.event r.client r.what (good.returns r h);
@@ -80,10 +81,10 @@ module _ (plan : Plan) where
 
   -- what is ignored, and effects that are over, are not read
   ignored-good : (cause : Ignored) (w : World) → Good plan w → Good plan (ignore cause w)
-  ignored-good cause w good = record { state = good.state; ordered = good.ordered; orderly = good.orderly; own = good.own; named = good.named; upto = good.upto; rounds = good.rounds; waiters = good.waiters; queue = λ a h. let g = good.queue a h in record { answered = g.answered; fits = g.fits }; ends = good.ends; ended_by_now = good.ended_by_now; clients_are = good.clients_are; numbers = good.numbers; distinct = good.distinct; entered = good.entered; sources = good.sources; returns = good.returns; clients = good.clients; all_returned = good.all_returned }
+  ignored-good cause w good = record { state = good.state; ordered = good.ordered; orderly = good.orderly; own = good.own; named = good.named; upto = good.upto; rounds = good.rounds; waiters = good.waiters; queue = λ a h. let g = good.queue a h in record { answered = g.answered; fits = g.fits }; ends = good.ends; ended_by_now = good.ended_by_now; clients_are = good.clients_are; numbers = good.numbers; distinct = good.distinct; rising = good.rising; entered = good.entered; sources = good.sources; returns = good.returns; clients = good.clients; all_returned = good.all_returned }
 
   close-good : (w : World) → Good plan w → Good plan (close w)
-  close-good w good = record { state = good.state; ordered = good.ordered; orderly = good.orderly; own = good.own; named = good.named; upto = good.upto; rounds = good.rounds; waiters = good.waiters; queue = λ a h. let g = good.queue a h in record { answered = g.answered; fits = g.fits }; ends = good.ends; ended_by_now = good.ended_by_now; clients_are = good.clients_are; numbers = good.numbers; distinct = good.distinct; entered = good.entered; sources = good.sources; returns = good.returns; clients = good.clients; all_returned = good.all_returned }
+  close-good w good = record { state = good.state; ordered = good.ordered; orderly = good.orderly; own = good.own; named = good.named; upto = good.upto; rounds = good.rounds; waiters = good.waiters; queue = λ a h. let g = good.queue a h in record { answered = g.answered; fits = g.fits }; ends = good.ends; ended_by_now = good.ended_by_now; clients_are = good.clients_are; numbers = good.numbers; distinct = good.distinct; rising = good.rising; entered = good.entered; sources = good.sources; returns = good.returns; clients = good.clients; all_returned = good.all_returned }
 
   -- answers are handed on; those that wait stay answers of the fold
   hands-good : (queue : List (Invocation × Answer)) (w : World) → Good plan w → ((a : Invocation × Answer) → Contains queue a → GivenTo w a.0 a.1) → Good plan (hand_all plan queue w)
@@ -94,7 +95,7 @@ module _ (plan : Plan) where
       (λ b h. does-given plan w (client_of a.0) (answer_client plan (replay_id (client_of a.0)) a.0 a.1 (client_at w (client_of a.0))) good ok b (given b (at-tail a b queue h)))
 
   pub handed-good : (w : World) → Good plan w → Good plan (handed plan w)
-  handed-good w good = hands-good w.queue (record w { queue = [] }) (record { state = good.state; ordered = good.ordered; orderly = good.orderly; own = good.own; named = good.named; upto = good.upto; rounds = good.rounds; waiters = good.waiters; queue = λ a h. absurd (no-element a h); ends = good.ends; ended_by_now = good.ended_by_now; clients_are = good.clients_are; numbers = good.numbers; distinct = good.distinct; entered = good.entered; sources = good.sources; returns = good.returns; clients = good.clients; all_returned = good.all_returned })
+  handed-good w good = hands-good w.queue (record w { queue = [] }) (record { state = good.state; ordered = good.ordered; orderly = good.orderly; own = good.own; named = good.named; upto = good.upto; rounds = good.rounds; waiters = good.waiters; queue = λ a h. absurd (no-element a h); ends = good.ends; ended_by_now = good.ended_by_now; clients_are = good.clients_are; numbers = good.numbers; distinct = good.distinct; rising = good.rising; entered = good.entered; sources = good.sources; returns = good.returns; clients = good.clients; all_returned = good.all_returned })
       (λ a h. let g = good.queue a h in record { answered = g.answered; fits = g.fits })
 
   -- a call's row, or a clock's
@@ -116,6 +117,7 @@ module _ (plan : Plan) where
         clients_are = good.clients_are;
         numbers = good.numbers;
         distinct = good.distinct;
+        rising = good.rising;
         entered = good.entered;
         sources = λ r h. source-on (ledger_of w) (ledger_of (record w { calls = w.calls ++ c ∷ [] })) more plan r (good.sources r h);
         returns = λ r h. told-on (ledger_of w) (ledger_of (record w { calls = w.calls ++ c ∷ [] })) more r.event r.client r.what (good.returns r h);
@@ -140,6 +142,7 @@ module _ (plan : Plan) where
         clients_are = good.clients_are;
         numbers = good.numbers;
         distinct = good.distinct;
+        rising = good.rising;
         entered = good.entered;
         sources = λ r h. source-on (ledger_of w) (ledger_of (record w { moves = w.moves ++ m ∷ [] })) more plan r (good.sources r h);
         returns = λ r h. told-on (ledger_of w) (ledger_of (record w { moves = w.moves ++ m ∷ [] })) more r.event r.client r.what (good.returns r h);
@@ -188,6 +191,7 @@ none-good plan = record {
   clients_are = λ r h. absurd (no-element r h);
   numbers = λ r h. absurd (no-element r h);
   distinct = λ j k a b at_j. absurd (none_some at_j);
+  rising = λ j k a b l at_j. absurd (none_some at_j);
   entered = λ place c is. absurd (none_some is);
   sources = λ r h. absurd (no-element r h);
   returns = λ r h. absurd (no-element r h);

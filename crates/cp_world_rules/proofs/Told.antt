@@ -54,7 +54,7 @@ use Rattle.cp_world_rules.specs.Answers.{lets_go_on}
 use Rattle.cp_world_rules.specs.Sessions.{AllTaken, IsTaken, TakesSession, TellsSession}
 use Rattle.cp_world_rules.specs.Sessions as told
 use Rattle.cp_world_rules.specs.World.{World, begins_now, client_at, client_of, close, commit, ends_now, ignore, new_world, note, returns_now, start, world_after}
-use Rattle.cp_world_rules.proofs.Lists.{get-append, get-map, get-some, push-none}
+use Rattle.cp_world_rules.proofs.Lists.{get-append, get-left-at, get-map, get-right, get-some, push-none}
 use Rattle.cp_world_rules.proofs.Ledgers.{Knows, PurposeOk, ledger_of, return_call}
 use Rattle.cp_world_rules.proofs.GroupLaws.{prepares}
 use Rattle.cp_world_rules.proofs.Working.{Said, holding-says, itself-plain}
@@ -75,18 +75,6 @@ openings w = openings_in w.effects ++ map (as_opening w.shown.number) w.shown.op
 openings-push : (effects : List Effects) (x : Effects) → openings_in (effects ++ x ∷ []) ≡ openings_in effects ++ map (as_opening x.number) x.opened
 openings-push [] x = push-none (map (as_opening x.number) x.opened) [] refl
 openings-push (y ∷ effects) x = ap (λ rows. map (as_opening y.number) y.opened ++ rows) (openings-push effects x) ∙ sym (append_assoc (map (as_opening y.number) y.opened) (openings_in effects) (map (as_opening x.number) x.opened))
-
-get-right : {X : Type 0} (xs ys : List X) (k j : ℕ) (y : X) → j ≡ length xs + k → slice_get ys k ≡ Some y → slice_get (xs ++ ys) j ≡ Some y
-get-right [] ys k j y e h = subst (λ n. slice_get ys n ≡ Some y) (sym (same j k e)) h where
-  same : (a b : ℕ) → a ≡ 0 + b → a ≡ b
-  same a b e = omega (arith, e)
-get-right (x ∷ xs) ys k zero y e h = absurd (omega (arith, e))
-get-right (x ∷ xs) ys k (suc j) y e h = get-right xs ys k j y (omega (arith, e)) h
-
-pub get-left-at : {X : Type 0} (xs ys : List X) (k : ℕ) (x : X) → slice_get xs k ≡ Some x → slice_get (xs ++ ys) k ≡ Some x
-get-left-at [] ys k x h = absurd (none_some h)
-get-left-at (y ∷ xs) ys zero x h = h
-get-left-at (y ∷ xs) ys (suc k) x h = get-left-at xs ys k x h
 
 -- ---- the one session of a client
 
@@ -308,8 +296,8 @@ module _ (plan : Plan) (w : World) (me : ClientNo) (d : Did) (good : Good plan w
   not-mine : (y : ClientNo) (x : Invocation × Answer) → Contains d.ended x → x.0.client ≡ replay_id y → y ≡ me
   not-mine y x there e = replay-same y me (sym e ∙ (s.ended x there).0)
 
-  mine : SeenBy v (openings v) me d.client
-  mine = record { so = s.has; sessions = s.sessions; printed = mine-so s.has refl; told = λ j t e at tells. told j t e tells (get-append w.ends fresh j e at); groups = s.groups } where
+  mine-seen : SeenBy v (openings v) me d.client
+  mine-seen = record { so = s.has; sessions = s.sessions; printed = mine-so s.has refl; told = λ j t e at tells. told j t e tells (get-append w.ends fresh j e at); groups = s.groups } where
     still : (j t : ℕ) → j < length w.ends → HasId (h.clients me).so t ⊎ TakenAfter w me t j → HasId s.has t ⊎ TakenAfter v me t j
     still j t l (inr x) = inr (after-on me t j x)
     still j t l (inl x) = by (s.keeps t x) where
@@ -321,8 +309,8 @@ module _ (plan : Plan) (w : World) (me : ClientNo) (d : Did) (good : Good plan w
     told j t e tells (inl x) = still j t x.1 ((h.clients me).told j t e x.0 (older (replay_id me) t e (asked-old e (get-contains w.ends j e x.0)) tells))
     told j t e tells (inr x) = let y = get-map (ends_now w) d.ended x.0 e x.2 in inl (tells-new y.0 t (get-contains d.ended x.0 y.0 y.1) (subst (TellsSession (w.requests ++ new) (replay_id me) t) y.2 tells))
 
-  others : (y : ClientNo) → (y ≡ me → ⊥) → SeenBy v (openings v) y (client_at w y)
-  others y off = let c = h.clients y in record { so = c.so; sessions = c.sessions; printed = so-on y c.so c.printed; told = λ j t e at tells. told j t e tells (get-append w.ends fresh j e at); groups = c.groups } where
+  others-seen : (y : ClientNo) → (y ≡ me → ⊥) → SeenBy v (openings v) y (client_at w y)
+  others-seen y off = let c = h.clients y in record { so = c.so; sessions = c.sessions; printed = so-on y c.so c.printed; told = λ j t e at tells. told j t e tells (get-append w.ends fresh j e at); groups = c.groups } where
     still : (j t : ℕ) → HasId (h.clients y).so t ⊎ TakenAfter w y t j → HasId (h.clients y).so t ⊎ TakenAfter v y t j
     still j t (inl x) = inl x
     still j t (inr x) = inr (after-on y t j x)
@@ -383,7 +371,7 @@ module _ (plan : Plan) (w : World) (me : ClientNo) (d : Did) (good : Good plan w
 
   pub note-seen : Seen v (openings v)
   note-seen = record {
-    clients = note-client plan w me d (λ y c. SeenBy v (openings v) y c) mine others;
+    clients = note-client plan w me d (λ y c. SeenBy v (openings v) y c) mine-seen others-seen;
     printed = λ x t e there tells. all-printed x t e tells (Contains-append_cases w.ends fresh e there);
     opened = λ o there. all-opened o (rows-split o there);
     by_now = λ r there. returns-now r (Contains-append_cases w.returns (map (returns_now w me) d.returns) r there);
@@ -558,17 +546,17 @@ module _ (plan : Plan) (w : World) (request : Invocation) (a : Answer) (good : G
   NoSession = (r : Request) (s : ℕ) → Contains w.requests r → r.call ≡ request → r.op ≡ op.Session session.Open → a ≡ answer.Session s → ⊥
 
   none-told : NoSession → (has : Option OwnSession) (x : Invocation × Answer) (r : Request) (s : ℕ) → Contains ((request, a) ∷ []) x → Contains w.requests r → r.call ≡ x.0 → r.op ≡ op.Session session.Open → x.1 ≡ answer.Session s → HasId has s
-  none-told no has x r s there in_r same opens says = let e = one-is (request, a) x there in
-      absurd (no r s in_r (same ∙ ap (λ (z : Invocation × Answer). z.0) e) opens (ap (λ (z : Invocation × Answer). z.1) (sym e) ∙ says))
+  none-told never has x r s there in_r same opened_is says = let e = one-is (request, a) x there in
+      absurd (never r s in_r (same ∙ ap (λ (z : Invocation × Answer). z.0) e) opened_is (ap (λ (z : Invocation × Answer). z.1) (sym e) ∙ says))
 
   -- the session stays
   quiet-ends : (d : Did) → NoSession → Quiet so d → Serves w (client_of request) so (mine d)
-  quiet-ends d no x = record {
+  quiet-ends d never x = record {
     has = x.has;
     sessions = x.sessions;
     keeps = λ s k. inl (x.same s k);
     origin = λ s k. inl (x.back s k);
-    tells = none-told no x.has;
+    tells = none-told never x.has;
     opened = λ o there. absurd (no-element o (subst (λ rows. Contains rows o) x.opened there));
     ended = ended-by;
     groups = x.groups;
@@ -687,12 +675,12 @@ module _ (plan : Plan) (w : World) (request : Invocation) (a : Answer) (good : G
   after-beat g (Some own) = from-alternative g own (forgets g a (session_of (Some own))) (why-taken g own a refl (forgets g a (session_of (Some own))) (forgetting g own a))
 
   after-serves : (d : Did) → After so d.client.sessions → d.opened ≡ [] → Groups d.client → NoSession → ((r : Return) → Contains d.returns r → r.ending ≡ ending.Answered answer.Ok → (return_call (client_of request) r ≡ request) × (a ≡ answer.Ok)) → Serves w (client_of request) so (mine d)
-  after-serves d x none g no returns = record {
+  after-serves d x none g never returns = record {
     has = x.0;
     sessions = x.1;
     keeps = λ s k. keeps s (x.2 s k);
     origin = λ s k. inl (x.3 s k);
-    tells = none-told no x.0;
+    tells = none-told never x.0;
     opened = λ o there. absurd (no-element o (subst (λ rows. Contains rows o) none there));
     ended = ended-by;
     groups = g;

@@ -228,12 +228,14 @@ module _ (plan : Plan) (w : World) (request : Invocation) (a : Answer) (mine : r
             asked : (q : Request) × IsAsked plan b.requests (returns_now w (client_of request) r) works.0 q
             asked = (
               open_now.asked,
-              open_now.there,
-              (ap (λ (z : Invocation). z.client) open_now.call_is, ap (λ (z : Invocation). z.thread) open_now.call_is),
-              ap (λ (z : Invocation). z.number) open_now.call_is ∙ same,
-              works.3,
-              m.book.requests_now open_now.asked open_now.there,
-              subst (λ (y : UserOp). MayAsk plan y open_now.asked.op) (sym works.1) works.4,
+              (
+                open_now.there,
+                (ap (λ (z : Invocation). z.client) open_now.call_is, ap (λ (z : Invocation). z.thread) open_now.call_is),
+                ap (λ (z : Invocation). z.number) open_now.call_is ∙ same,
+                works.3,
+                m.book.requests_now open_now.asked open_now.there,
+                subst (λ (y : UserOp). MayAsk plan y open_now.asked.op) (sym works.1) works.4,
+              ),
             )
 
       prepared-all : (o : UserOp) (p : Purpose) (x : Answer) → x ≡ a → NeedsIt o p → TaskWorks plan b (client_of request) request.thread open_now.asked (is_for_itself p) now.deadline (task.Calls o)
@@ -299,7 +301,7 @@ module _ (plan : Plan) (w : World) (me : ClientNo) (moved : Moved) (of_event : m
     by_task now q (task.Beats s) deadline late there call_is none = absurd (no_true (sym (ap (is_past c.clock) none) ∙ late))
     by_task now q (task.Calls o) deadline late there call_is works = subst (λ (x : Book). Mid plan w me x (with_thread c t (record { number = (thread_at c t).number; pending = None }))) (sym (adds-return w me b r))
         (returns-here plan w me b c t true (take-up plan w me b c t m) works.0 (is_for_itself now.purpose) works.2 (returns_now w me r) refl refl refl (le_refl (thread_at c t).number) (by_deadline works.0 o works.1 deadline works.5 late)
-        (inl (q, there, (ap (λ (z : Invocation). z.client) call_is, ap (λ (z : Invocation). z.thread) call_is), ap (λ (z : Invocation). z.number) call_is, works.3, m.book.requests_now q there, subst (λ (y : UserOp). MayAsk plan y q.op) (sym works.1) works.4))
+        (inl (q, (there, (ap (λ (z : Invocation). z.client) call_is, ap (λ (z : Invocation). z.thread) call_is), ap (λ (z : Invocation). z.number) call_is, works.3, m.book.requests_now q there, subst (λ (y : UserOp). MayAsk plan y q.op) (sym works.1) works.4)))
         (thread_at c t).number (le_refl (thread_at c t).number) (λ e. refl))
 
     at : (o : Option Pending) → (thread_at c t).pending ≡ o → is_late c.clock o ≡ true

@@ -1,5 +1,5 @@
 -- What is promised of calls and of their requests.
-use Rattle.std.specs.Prelude.{◌≡◌, ◌≤◌, ◌⊎◌, ℕ, Bool, true, false, List, Some, None, slice_get, Contains}
+use Rattle.std.specs.Prelude.{◌≡◌, ◌≤◌, ◌<◌, ◌⊎◌, ℕ, Bool, true, false, List, Some, None, slice_get, Contains}
 use Rattle.cp_base.specs.Identifiers.{replay_id}
 use Rattle.cp_base.specs.declared.identifier.ClientNo.{ClientNo}
 use Rattle.cp_base.specs.declared.identifier.ThreadNo.{ThreadNo}
@@ -84,9 +84,10 @@ abbrev pub AsksItselfOnce : Plan → Execution → Type 0
 AsksItselfOnce plan x = (j k : ℕ) (a b : Request) (c : Called) → slice_get x.requests j ≡ Some a → slice_get x.requests k ≡ Some b
     → IsRequestOfCall plan x a c → IsRequestOfCall plan x b c → IsForItself plan c.op a.op → IsForItself plan c.op b.op → j ≡ k
 
--- no two requests have one invocation
-abbrev pub NumbersApart : List Request → Type 0
-NumbersApart requests = (j k : ℕ) (a b : Request) → slice_get requests j ≡ Some a → slice_get requests k ≡ Some b → a.call ≡ b.call → j ≡ k
+-- The numbers of a thread's requests rise: so no two requests have one invocation.
+abbrev pub NumbersRise : List Request → Type 0
+NumbersRise requests = (j k : ℕ) (a b : Request) → j < k → slice_get requests j ≡ Some a → slice_get requests k ≡ Some b → a.call.client ≡ b.call.client → a.call.thread ≡ b.call.thread
+    → a.call.number < b.call.number
 
 -- a request ends once at most
 abbrev pub EndsOnce : List End → Type 0

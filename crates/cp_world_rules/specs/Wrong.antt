@@ -34,7 +34,7 @@ use Rattle.cp_world_rules.specs.Rows.{Called, Committed, End, Request, entries_o
 use Rattle.cp_world_rules.specs.World.{shows_nothing}
 use Rattle.cp_world_rules.specs.Execution.{Execution, Settled, execution_of, histories_of, history}
 use Rattle.cp_world_rules.specs.Orders.{IsFullyOrderly}
-use Rattle.cp_world_rules.specs.Requests.{AsksItselfOnce, CallsStand, EndsOnce, NumbersApart, Requested, ReturnsOnce}
+use Rattle.cp_world_rules.specs.Requests.{AsksItselfOnce, CallsStand, EndsOnce, NumbersRise, Requested, ReturnsOnce}
 use Rattle.cp_world_rules.specs.Entries.{EntriesAreAsked, EventsRise, HistoriesStand, LengthsAreTrue, NamesOwnSessions, RowsAreInOrder}
 use Rattle.cp_world_rules.specs.Answers.{AllAnswered, GoesOn}
 use Rattle.cp_world_rules.specs.Returns.{AllReturnsTell}
@@ -362,7 +362,7 @@ pub record AreRefused : Type 0 where
   pub forgotten : CallsStand forgets_a_call → ⊥
   pub older_call : Requested one_client asks_for_an_older_call → ⊥
   pub asked_twice : AsksItselfOnce one_client asks_twice → ⊥
-  pub number_twice : NumbersApart takes_a_number_twice.requests → ⊥
+  pub number_twice : NumbersRise takes_a_number_twice.requests → ⊥
   -- answers
   pub nobody : AllAnswered one_client answers_nobody → ⊥
   pub at_will : AllAnswered one_client answers_at_will → ⊥
