@@ -532,7 +532,7 @@ module _ (plan : Plan) (w : World) (request : Invocation) (a : Answer) (good : G
 
     -- no lock was asked for
     other-ret : is_lock_op q.op ≡ false → Ret a
-    other-ret no = plain-ret a refl (λ x e name what s on_lock. absurd (no_true (sym (ap is_lock_op on_lock) ∙ no)))
+    other-ret plain = plain-ret a refl (λ x e name what s on_lock. absurd (no_true (sym (ap is_lock_op on_lock) ∙ plain)))
 
     lost-expired : {x : ℕ} → answer.OwnershipLost ≡ answer.SessionExpired x → ⊥
     lost-expired e = cc

@@ -431,7 +431,7 @@ module _ (plan : Plan) (events : List Event) (w : World) (sound : Sound plan w) 
   loss-expired e = cc
 
   not-lost : (r : Returned) (e : End) → Contains w.ends e → e.call ≡ request_of r → ((x : ℕ) → e.answer ≡ answer.SessionExpired x → ⊥) → LostOwnership plan (executed w) r → ⊥
-  not-lost r e in_e call no l = no l.expired (ap (λ (z : End). z.answer) (same-end e l.here.end in_e l.here.ended (call ∙ sym l.here.call_is)) ∙ l.says)
+  not-lost r e in_e call never l = never l.expired (ap (λ (z : End). z.answer) (same-end e l.here.end in_e l.here.ended (call ∙ sym l.here.call_is)) ∙ l.says)
 
   -- a thread that was told no hold lost none
   kept-it : (r : Returned) → LostOwnership plan (executed w) r → HeldNone w r → ⊥

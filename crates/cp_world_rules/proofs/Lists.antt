@@ -8,6 +8,7 @@ use Rattle.std.specs.BTreeMap.{is_at}
 use Rattle.std.proofs.Common.{Bool, true, false, if◌then◌else◌}
 use Rattle.std.proofs.lemmas.List.Elements.{All-cons, All-head, All-tail, All-weaker}
 use Rattle.std.proofs.lemmas.List.{map-append}
+use Rattle.cp_base.proofs.Tests.{none_some}
 use Rattle.cp_ops.specs.declared.entry.Entry.{Entry}
 use Rattle.cp_group_state.specs.GroupState.{GroupState}
 use Rattle.cp_group_state.specs.Apply.{apply, run}

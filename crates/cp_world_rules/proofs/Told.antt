@@ -645,7 +645,7 @@ module _ (plan : Plan) (w : World) (request : Invocation) (a : Answer) (good : G
       closes = λ r there good_end. absurd (x.returns r there good_end);
     }
       where
-        opened-is : (t : ℕ) → s ≡ t → record { group = now.group; session = s } ≡ record { group = default_group; session = t }
+        opened-is : (t : ℕ) → s ≡ t → ◌≡◌ {A = Opened} (record { group = now.group; session = s }) (record { group = default_group; session = t })
         opened-is t f = λ j. record { group = g_is j; session = f j }
 
   -- the last answer of a call, and that to a beat
