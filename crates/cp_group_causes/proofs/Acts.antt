@@ -8,6 +8,7 @@ use Rattle.std.proofs.lemmas.Bool.Decides.{nat_tests}
 use Rattle.std.proofs.lemmas.Slice.Eq.{bytes_eq-Decides}
 use Rattle.std.proofs.lemmas.List.Elements.{All-nil, All-cons, All-append, All-map, All-weaker, All-contains_itself, All-filter, All-head}
 use Rattle.cp_base.specs.declared.identifier.ClientId.{ClientId}
+use Rattle.cp_base.specs.declared.identifier.GroupId.{GroupId}
 use Rattle.cp_base.specs.declared.identifier.Invocation.{Invocation}
 use Rattle.cp_base.proofs.Tests.{same_some}
 use Rattle.cp_answers.specs.declared.answer.Answer.{Answer}
@@ -47,7 +48,7 @@ use Rattle.cp_group_state.specs.GroupState.{GroupState}
 use Rattle.cp_group_state.specs.Changes.{Change, stay, for_each, finish, end_all}
 use Rattle.cp_group_state.specs.Serving.{serve_from, serve, left_by, serve_left, serve_each_left, hand_to, hand_over}
 use Rattle.cp_group_state.specs.Closing.{concerned, forget, free_locks, free_permits, end_sessions, close}
-use Rattle.cp_group_state.specs.Outcomes.{Outcome, wait}
+use Rattle.cp_group_state.specs.Outcomes.{Outcome, Reply, Answered, wait}
 use Rattle.cp_group_state.specs.Apply.{supersede, time_out, is_older, outcome, rule}
 use Rattle.cp_group_state.specs.Destroying.{is_gone, add_gone, drop_rows, destroy_rule, names_gone, object_of}
 use Rattle.cp_group_state.specs.LockRules.{lock_rule, on_taken, on_released}
@@ -73,44 +74,82 @@ Destroys e key = (by : Invocation) × (e ≡ entry.Call by (op.Destroy key.1 key
 abbrev pub Overtakes : Entry → Invocation → ℕ → Type 0
 Overtakes e call n = (by : Invocation) × (o : Op) × (e ≡ entry.Call by o) × (by.client ≡ call.client) × (by.thread ≡ call.thread) × (by.number ≡ n) × (call.number < n)
 
--- why the entry ends a waiter with this answer
+-- why the entry ends a waiter with this answer, where these sessions are closed and these objects are destroyed
+module _ (C : ℕ → Type 0) (D : Object → Type 0) where
+  abbrev pub MayEndBy : Entry → Waiter → Answer → Type 0
+  MayEndBy e w answer.Ok = Unit {0}
+  MayEndBy e w (answer.Bool b) = Unit {0}
+  MayEndBy e w (answer.Fence f) = Unit {0}
+  MayEndBy e w (answer.SessionExpired s) = C s
+  MayEndBy e w answer.TimedOut = (calls : List Invocation) × (e ≡ entry.WaitsExpired calls) × Contains calls w.call
+  MayEndBy e w (answer.WaitCancelled n) = Overtakes e w.call n
+  MayEndBy e w answer.ObjectDestroyed = D (w.name, w.kind)
+  MayEndBy e w (answer.GroupDestroyed g) = e ≡ entry.Destroy g
+  MayEndBy e w a = ⊥
+
+  abbrev pub IsEndedFor : Entry → GroupState → Ended → Type 0
+  IsEndedFor e s x = Contains s.waiters x.waiter × MayEndBy e x.waiter x.answer
+
 abbrev pub MayEnd : Entry → Waiter → Answer → Type 0
-MayEnd e w answer.Ok = Unit {0}
-MayEnd e w (answer.Bool b) = Unit {0}
-MayEnd e w (answer.Fence f) = Unit {0}
-MayEnd e w (answer.SessionExpired s) = Closes e s
-MayEnd e w answer.TimedOut = (calls : List Invocation) × (e ≡ entry.WaitsExpired calls) × Contains calls w.call
-MayEnd e w (answer.WaitCancelled n) = Overtakes e w.call n
-MayEnd e w answer.ObjectDestroyed = Destroys e (w.name, w.kind)
-MayEnd e w (answer.GroupDestroyed g) = e ≡ entry.Destroy g
-MayEnd e w a = ⊥
+MayEnd e w a = MayEndBy (Closes e) (Destroys e) e w a
+
+abbrev pub IsEndedBy : Entry → GroupState → Ended → Type 0
+IsEndedBy e s x = IsEndedFor (Closes e) (Destroys e) e s x
 
 abbrev pub Fewer : GroupState → Change → Type 0
 Fewer s c = (w : Waiter) → Contains c.state.waiters w → Contains s.waiters w
 
-abbrev pub IsEndedBy : Entry → GroupState → Ended → Type 0
-IsEndedBy e s x = Contains s.waiters x.waiter × MayEnd e x.waiter x.answer
-
-abbrev pub EndsWell : Entry → GroupState → Change → Type 0
-EndsWell e s c = All (IsEndedBy e s) c.ended
-
-abbrev pub SessionsStay : ℕ → Entry → GroupState → Change → Type 0
-SessionsStay i e s c = (x : ℕ) (client : ClientId) → x < i → is_open_for s.sessions x client ≡ true → (is_open_for c.state.sessions x client ≡ true) ⊎ Closes e x
+abbrev pub SessionsStay : (ℕ → Type 0) → ℕ → GroupState → Change → Type 0
+SessionsStay C i s c = (x : ℕ) (client : ClientId) → x < i → is_open_for s.sessions x client ≡ true → (is_open_for c.state.sessions x client ≡ true) ⊎ C x
 
 -- sessions have numbers up to this one
 abbrev pub SessionsUpTo : ℕ → GroupState → Type 0
 SessionsUpTo i s = (x : ℕ) (client : ClientId) → is_open_for s.sessions x client ≡ true → x ≤ i
 
-abbrev pub GoneByEntry : Entry → GroupState → Change → Type 0
-GoneByEntry e s c = (key : Object) → is_gone c.state key ≡ true → (is_gone s key ≡ true) ⊎ Destroys e key
+abbrev pub GoneBy : (Object → Type 0) → GroupState → Change → Type 0
+GoneBy D s c = (key : Object) → is_gone c.state key ≡ true → (is_gone s key ≡ true) ⊎ D key
 
 -- memory rows keep their numbers
 abbrev pub MemoryStays : List ((ℕ × ℕ) × MemoryRow) → List ((ℕ × ℕ) × MemoryRow) → Type 0
 MemoryStays before after = (q : ℕ × ℕ) (row : MemoryRow) → find holder_cmp after q ≡ Some row → (old : MemoryRow) × (find holder_cmp before q ≡ Some old) × (old.number ≡ row.number)
 
-abbrev pub Acts : ℕ → Entry → GroupState → Change → Type 0
-Acts i e s c = Fewer s c × EndsWell e s c × SessionsStay i e s c × (SessionsUpTo i s → SessionsUpTo i c.state) × GoneByEntry e s c
+abbrev pub ActsBy : (ℕ → Type 0) → (Object → Type 0) → ℕ → Entry → GroupState → Change → Type 0
+ActsBy C D i e s c = Fewer s c × All (IsEndedFor C D e s) c.ended × SessionsStay C i s c × (SessionsUpTo i s → SessionsUpTo i c.state) × GoneBy D s c
     × MemoryStays s.memory c.state.memory × (c.state.destroyed_group ≡ s.destroyed_group)
+
+abbrev pub Acts : ℕ → Entry → GroupState → Change → Type 0
+Acts i e s c = ActsBy (Closes e) (Destroys e) i e s c
+
+-- for further reasons
+may-weaker : (C D : ℕ → Type 0) (E F : Object → Type 0) → ((x : ℕ) → C x → D x) → ((key : Object) → E key → F key) → (e : Entry) (w : Waiter) (a : Answer) → MayEndBy C E e w a → MayEndBy D F e w a
+may-weaker C D E F f g e w answer.Ok h = h
+may-weaker C D E F f g e w (answer.Bool b) h = h
+may-weaker C D E F f g e w (answer.Fence n) h = h
+may-weaker C D E F f g e w (answer.SessionExpired s) h = f s h
+may-weaker C D E F f g e w answer.TimedOut h = h
+may-weaker C D E F f g e w (answer.WaitCancelled n) h = h
+may-weaker C D E F f g e w answer.ObjectDestroyed h = g (w.name, w.kind) h
+may-weaker C D E F f g e w (answer.GroupDestroyed n) h = h
+may-weaker C D E F f g e w a h = absurd h
+
+pub acts-weaker : (C D : ℕ → Type 0) (E F : Object → Type 0) → ((x : ℕ) → C x → D x) → ((key : Object) → E key → F key) → (i : ℕ) (e : Entry) (s : GroupState) (c : Change) → ActsBy C E i e s c → ActsBy D F i e s c
+acts-weaker C D E F f g i e s c h = (
+  h.0,
+  All-weaker (IsEndedFor C E e s) (IsEndedFor D F e s) (λ x k. (k.0, may-weaker C D E F f g e x.waiter x.answer k.1)) c.ended h.1,
+  λ x client l k. closed x (h.2 x client l k),
+  h.3,
+  λ key k. gone key (h.4 key k),
+  h.5,
+  h.6,
+)
+  where
+    closed : {A : Type 0} → (x : ℕ) → A ⊎ C x → A ⊎ D x
+    closed x (inl k) = inl k
+    closed x (inr k) = inr (f x k)
+
+    gone : {A : Type 0} → (key : Object) → A ⊎ E key → A ⊎ F key
+    gone key (inl k) = inl k
+    gone key (inr k) = inr (g key k)
 
 -- memory
 memory-same : (rows : List ((ℕ × ℕ) × MemoryRow)) → MemoryStays rows rows
@@ -154,14 +193,14 @@ all-ending P test a [] h = All-nil P
 all-ending P test a (w ∷ ws) h = let rest = all-ending P test a ws (λ v b t. h v (at-tail w v ws b) t) in
     cases (λ (xs : List Waiter). All P (map (answered_by a) xs)) (test w) _ _ (λ t. All-cons P (answered_by a w) (map (answered_by a) (filter test ws)) (h w (at-head w ws) t) rest) (λ t. rest)
 
-module _ (i : ℕ) (e : Entry) where
-  pub acts-stays : (s : GroupState) → Acts i e s (stay s)
-  acts-stays s = (λ w h. h, All-nil (IsEndedBy e s), λ x client l h. inl h, λ h. h, λ key h. inl h, memory-same s.memory, refl)
+module _ (C : ℕ → Type 0) (D : Object → Type 0) (i : ℕ) (e : Entry) where
+  pub stays-by : (s : GroupState) → ActsBy C D i e s (stay s)
+  stays-by s = (λ w h. h, All-nil (IsEndedFor C D e s), λ x client l h. inl h, λ h. h, λ key h. inl h, memory-same s.memory, refl)
 
-  pub acts-joins : (s : GroupState) (c d : Change) → Acts i e s c → Acts i e c.state d → Acts i e s (record { state = d.state; ended = c.ended ++ d.ended })
+  pub acts-joins : (s : GroupState) (c d : Change) → ActsBy C D i e s c → ActsBy C D i e c.state d → ActsBy C D i e s (record { state = d.state; ended = c.ended ++ d.ended })
   acts-joins s c d f g = (
     λ w h. f.0 w (g.0 w h),
-    All-append (IsEndedBy e s) c.ended d.ended f.1 (All-weaker (IsEndedBy e c.state) (IsEndedBy e s) (λ x h. (f.0 x.waiter h.0, h.1)) d.ended g.1),
+    All-append (IsEndedFor C D e s) c.ended d.ended f.1 (All-weaker (IsEndedFor C D e c.state) (IsEndedFor C D e s) (λ x h. (f.0 x.waiter h.0, h.1)) d.ended g.1),
     λ x client l h. sessions x client l (f.2 x client l h),
     λ h. g.3 (f.3 h),
     λ key h. gone key (g.4 key h),
@@ -169,53 +208,53 @@ module _ (i : ℕ) (e : Entry) where
     g.6 ∙ f.6,
   )
     where
-      sessions : (x : ℕ) (client : ClientId) → x < i → (is_open_for c.state.sessions x client ≡ true) ⊎ Closes e x → (is_open_for d.state.sessions x client ≡ true) ⊎ Closes e x
+      sessions : (x : ℕ) (client : ClientId) → x < i → (is_open_for c.state.sessions x client ≡ true) ⊎ C x → (is_open_for d.state.sessions x client ≡ true) ⊎ C x
       sessions x client l (inl h) = g.2 x client l h
       sessions x client l (inr h) = inr h
 
-      gone : (key : Object) → (is_gone c.state key ≡ true) ⊎ Destroys e key → (is_gone s key ≡ true) ⊎ Destroys e key
+      gone : (key : Object) → (is_gone c.state key ≡ true) ⊎ D key → (is_gone s key ≡ true) ⊎ D key
       gone key (inl h) = f.4 key h
       gone key (inr h) = inr h
 
-  contained : (s : GroupState) (ended : List Ended) → All (IsEndedBy e s) ended → All (λ (x : Ended). Contains s.waiters x.waiter) ended
-  contained s ended all = All-weaker (IsEndedBy e s) (λ (x : Ended). Contains s.waiters x.waiter) (λ x h. h.0) ended all
+  contained : (s : GroupState) (ended : List Ended) → All (IsEndedFor C D e s) ended → All (λ (x : Ended). Contains s.waiters x.waiter) ended
+  contained s ended all = All-weaker (IsEndedFor C D e s) (λ (x : Ended). Contains s.waiters x.waiter) (λ x h. h.0) ended all
 
-  pub acts-finish : (s : GroupState) (ended : List Ended) → All (IsEndedBy e s) ended → Acts i e s (finish ended s)
+  pub acts-finish : (s : GroupState) (ended : List Ended) → All (IsEndedFor C D e s) ended → ActsBy C D i e s (finish ended s)
   acts-finish s ended all = (λ w h. (fewer_closed i).ends s ended (contained s ended all) w h, all, λ x client l h. inl h, λ h. h, λ key h. inl h, memory-note_all s.memory ended, refl)
 
-  pub acts-each : {X : Type 0} (f : X → GroupState → Change) → ((x : X) (s : GroupState) → Acts i e s (f x s)) → (xs : List X) (s : GroupState) → Acts i e s (for_each f xs s)
-  acts-each f h [] s = acts-stays s
+  pub acts-each : {X : Type 0} (f : X → GroupState → Change) → ((x : X) (s : GroupState) → ActsBy C D i e s (f x s)) → (xs : List X) (s : GroupState) → ActsBy C D i e s (for_each f xs s)
+  acts-each f h [] s = stays-by s
   acts-each f h (x ∷ xs) s = acts-joins s (f x s) (for_each f xs (f x s).state) (h x s) (acts-each f h xs (f x s).state)
 
-  pub acts-end_all : (test : Waiter → Bool) (a : Waiter → Answer) (s : GroupState) → ((w : Waiter) → test w ≡ true → MayEnd e w (a w)) → Acts i e s (end_all test a s)
-  acts-end_all test a s h = acts-finish s (ending test a s.waiters) (all-ending (IsEndedBy e s) test a s.waiters (λ w there t. (there, h w t)))
+  pub acts-end_all : (test : Waiter → Bool) (a : Waiter → Answer) (s : GroupState) → ((w : Waiter) → test w ≡ true → MayEndBy C D e w (a w)) → ActsBy C D i e s (end_all test a s)
+  acts-end_all test a s h = acts-finish s (ending test a s.waiters) (all-ending (IsEndedFor C D e s) test a s.waiters (λ w there t. (there, h w t)))
 
-  acts-serve_from : (key : Object) (o : Option SemaphoreRow) (s : GroupState) → Acts i e s (serve_from key o s)
-  acts-serve_from key None s = acts-stays s
+  acts-serve_from : (key : Object) (o : Option SemaphoreRow) (s : GroupState) → ActsBy C D i e s (serve_from key o s)
+  acts-serve_from key None s = stays-by s
   acts-serve_from key (Some row) s = acts-finish s (map (answered_by (λ w. answer.Ok)) (served key row.available s.waiters))
-      (All-map (IsEndedBy e s) (answered_by (λ w. answer.Ok)) (served key row.available s.waiters)
+      (All-map (IsEndedFor C D e s) (answered_by (λ w. answer.Ok)) (served key row.available s.waiters)
       (All-weaker (Contains s.waiters) (λ (w : Waiter). Contains s.waiters w × Unit {0}) (λ w h. (h, tt)) (served key row.available s.waiters) (All-served (Contains s.waiters) key row.available s.waiters (All-contains_itself s.waiters))))
 
-  pub acts-serve : (key : Object) (s : GroupState) → Acts i e s (serve key s)
+  pub acts-serve : (key : Object) (s : GroupState) → ActsBy C D i e s (serve key s)
   acts-serve key s = acts-serve_from key (find object_cmp s.semaphores.rows key) s
 
-  pub acts-serve_left : (s : GroupState) (c : Change) → Acts i e s c → Acts i e s (serve_left c)
+  pub acts-serve_left : (s : GroupState) (c : Change) → ActsBy C D i e s c → ActsBy C D i e s (serve_left c)
   acts-serve_left s c h = acts-joins s c (for_each serve (left_by c.ended c.state) c.state) h (acts-each serve acts-serve (left_by c.ended c.state) c.state)
 
-  pub acts-serve_each_left : (s : GroupState) (c : Change) → Acts i e s c → Acts i e s (serve_each_left c)
+  pub acts-serve_each_left : (s : GroupState) (c : Change) → ActsBy C D i e s c → ActsBy C D i e s (serve_each_left c)
   acts-serve_each_left s c h = acts-joins s c (for_each serve (map (λ x. (x.waiter.name, x.waiter.kind)) c.ended) c.state) h (acts-each serve acts-serve (map (λ x. (x.waiter.name, x.waiter.kind)) c.ended) c.state)
 
-  acts-hand_to : (name : List ℕ) (s : GroupState) (ws : List Waiter) → All (Contains s.waiters) ws → Acts i e s (hand_to i name (first ws) s)
-  acts-hand_to name s [] all = acts-stays s
-  acts-hand_to name s (w ∷ ws) all = acts-finish s (record { waiter = w; answer = answer.Fence i } ∷ []) (All-cons (IsEndedBy e s) (record { waiter = w; answer = answer.Fence i }) [] (All-head (Contains s.waiters) w ws all, tt) (All-nil (IsEndedBy e s)))
+  acts-hand_to : (name : List ℕ) (s : GroupState) (ws : List Waiter) → All (Contains s.waiters) ws → ActsBy C D i e s (hand_to i name (first ws) s)
+  acts-hand_to name s [] all = stays-by s
+  acts-hand_to name s (w ∷ ws) all = acts-finish s (record { waiter = w; answer = answer.Fence i } ∷ []) (All-cons (IsEndedFor C D e s) (record { waiter = w; answer = answer.Fence i }) [] (All-head (Contains s.waiters) w ws all, tt) (All-nil (IsEndedFor C D e s)))
 
-  pub acts-hand_over : (name : List ℕ) (s : GroupState) → Acts i e s (hand_over i name s)
+  pub acts-hand_over : (name : List ℕ) (s : GroupState) → ActsBy C D i e s (hand_over i name s)
   acts-hand_over name s = acts-hand_to name s (filter (waits_on kind.Lock name) s.waiters) (All-filter (waits_on kind.Lock name) (Contains s.waiters) s.waiters (All-contains_itself s.waiters))
 
   -- closing
-  forget-stay : (s : GroupState) (sessions : List ℕ) → ((x : ℕ) → is_among sessions x ≡ true → Closes e x) → (x : ℕ) (client : ClientId) → is_open_for s.sessions x client ≡ true → (is_open_for (forget sessions s).sessions x client ≡ true) ⊎ Closes e x
+  forget-stay : (s : GroupState) (sessions : List ℕ) → ((x : ℕ) → is_among sessions x ≡ true → C x) → (x : ℕ) (client : ClientId) → is_open_for s.sessions x client ≡ true → (is_open_for (forget sessions s).sessions x client ≡ true) ⊎ C x
   forget-stay s sessions closes x client h = by (is_among sessions x) refl where
-    by : (b : Bool) → is_among sessions x ≡ b → (is_open_for (forget sessions s).sessions x client ≡ true) ⊎ Closes e x
+    by : (b : Bool) → is_among sessions x ≡ b → (is_open_for (forget sessions s).sessions x client ≡ true) ⊎ C x
     by true t = inr (closes x t)
     by false t = inl (is_of-same client _ _ (sym (find-filter_kept nat_cmp number_key (λ y. not (is_among sessions y)) s.sessions x (rw t))) h)
 
@@ -228,7 +267,7 @@ module _ (i : ℕ) (e : Entry) where
     by true t = absurd (no (is_of-same client _ None (find-filter_gone nat_cmp number_key (λ y. not (is_among sessions y)) s.sessions x (rw t)) h))
     by false t = is_of-same client _ _ (find-filter_kept nat_cmp number_key (λ y. not (is_among sessions y)) s.sessions x (rw t)) h
 
-  acts-end_sessions : (sessions : List ℕ) (s : GroupState) → ((x : ℕ) → is_among sessions x ≡ true → Closes e x) → Acts i e s (end_sessions sessions s)
+  acts-end_sessions : (sessions : List ℕ) (s : GroupState) → ((x : ℕ) → is_among sessions x ≡ true → C x) → ActsBy C D i e s (end_sessions sessions s)
   acts-end_sessions sessions s closes = let f = acts-end_all (λ w. is_among sessions w.session) (λ w. answer.SessionExpired w.session) (forget sessions s) (λ w t. closes w.session t) in (
     f.0,
     f.1,
@@ -239,69 +278,69 @@ module _ (i : ℕ) (e : Entry) where
     refl,
   )
 
-  acts-hand_all : (sessions : List ℕ) (names : List (List ℕ)) (s : GroupState) → Acts i e s (for_each (hand_over i) names (free_locks sessions s))
+  acts-hand_all : (sessions : List ℕ) (names : List (List ℕ)) (s : GroupState) → ActsBy C D i e s (for_each (hand_over i) names (free_locks sessions s))
   acts-hand_all sessions names s = acts-each (hand_over i) acts-hand_over names (free_locks sessions s)
 
-  acts-serve_all : (sessions : List ℕ) (keys : List Object) (s : GroupState) → Acts i e s (for_each serve keys (free_permits sessions s))
+  acts-serve_all : (sessions : List ℕ) (keys : List Object) (s : GroupState) → ActsBy C D i e s (for_each serve keys (free_permits sessions s))
   acts-serve_all sessions keys s = acts-each serve acts-serve keys (free_permits sessions s)
 
-  pub acts-close : (sessions : List ℕ) (s : GroupState) → ((x : ℕ) → is_among sessions x ≡ true → Closes e x) → Acts i e s (close i sessions s)
+  pub acts-close : (sessions : List ℕ) (s : GroupState) → ((x : ℕ) → is_among sessions x ≡ true → C x) → ActsBy C D i e s (close i sessions s)
   acts-close sessions s closes =
       acts-joins s (record { state = (for_each (hand_over i) (held_among sessions s.locks) (free_locks sessions (end_sessions sessions s).state)).state; ended = (end_sessions sessions s).ended ++ (for_each (hand_over i) (held_among sessions s.locks) (free_locks sessions (end_sessions sessions s).state)).ended })
       (for_each serve (concerned sessions (end_sessions sessions s).ended s) (free_permits sessions (for_each (hand_over i) (held_among sessions s.locks) (free_locks sessions (end_sessions sessions s).state)).state))
       (acts-joins s (end_sessions sessions s) (for_each (hand_over i) (held_among sessions s.locks) (free_locks sessions (end_sessions sessions s).state)) (acts-end_sessions sessions s closes) (acts-hand_all sessions (held_among sessions s.locks) (end_sessions sessions s).state))
       (acts-serve_all sessions (concerned sessions (end_sessions sessions s).ended s) (for_each (hand_over i) (held_among sessions s.locks) (free_locks sessions (end_sessions sessions s).state)).state)
 
-  acts-wait : (w : Waiter) (x : Wish) (s : GroupState) → Acts i e s (wait w x s).change
-  acts-wait w wish.NoLimit s = acts-stays s
-  acts-wait w (wish.Within ms) s = either (λ (o : Outcome). Acts i e s o.change) (ms == 0) _ _ (acts-stays s) (acts-stays s)
+  acts-wait : (w : Waiter) (x : Wish) (s : GroupState) → ActsBy C D i e s (wait w x s).change
+  acts-wait w wish.NoLimit s = stays-by s
+  acts-wait w (wish.Within ms) s = either (λ (o : Outcome). ActsBy C D i e s o.change) (ms == 0) _ _ (stays-by s) (stays-by s)
 
-  acts-on_taken : (w : Waiter) (x : Wish) (taken : Taken) (s : GroupState) → Acts i e s (on_taken w x taken s).change
-  acts-on_taken w x (Fence f) s = acts-stays s
-  acts-on_taken w x (Limit n) s = acts-stays s
-  acts-on_taken w x Full s = acts-stays s
+  acts-on_taken : (w : Waiter) (x : Wish) (taken : Taken) (s : GroupState) → ActsBy C D i e s (on_taken w x taken s).change
+  acts-on_taken w x (Fence f) s = stays-by s
+  acts-on_taken w x (Limit n) s = stays-by s
+  acts-on_taken w x Full s = stays-by s
   acts-on_taken w x Busy s = acts-wait w x s
 
-  acts-on_released : (name : List ℕ) (released : Released) (s : GroupState) → Acts i e s (on_released i name released s).change
+  acts-on_released : (name : List ℕ) (released : Released) (s : GroupState) → ActsBy C D i e s (on_released i name released s).change
   acts-on_released name Freed s = acts-hand_over name s
-  acts-on_released name Kept s = acts-stays s
-  acts-on_released name NotOwner s = acts-stays s
+  acts-on_released name Kept s = stays-by s
+  acts-on_released name NotOwner s = stays-by s
 
-  acts-lock : (call : Invocation) (name : List ℕ) (l : LockOp) (s : GroupState) → Acts i e s (lock_rule i call name l s).change
-  acts-lock call name lock.Owner s = acts-stays s
+  acts-lock : (call : Invocation) (name : List ℕ) (l : LockOp) (s : GroupState) → ActsBy C D i e s (lock_rule i call name l s).change
+  acts-lock call name lock.Owner s = stays-by s
   acts-lock call name (lock.Acquire session limit x) s = acts-on_taken _ x _ (record s { locks = (acquired s.locks i name (record { session = session; thread = call.thread }) limit).rows })
   acts-lock call name (lock.Release session) s = acts-on_released name _ (record s { locks = (released_by s.locks name (record { session = session; thread = call.thread })).rows })
 
-  acts-sem_wait : (call : Invocation) (key : Object) (l : SemOp) (s : GroupState) → Acts i e s (sem_wait call key l s).change
-  acts-sem_wait call key sem.Available s = acts-stays s
-  acts-sem_wait call key (sem.Init n) s = acts-stays s
+  acts-sem_wait : (call : Invocation) (key : Object) (l : SemOp) (s : GroupState) → ActsBy C D i e s (sem_wait call key l s).change
+  acts-sem_wait call key sem.Available s = stays-by s
+  acts-sem_wait call key (sem.Init n) s = stays-by s
   acts-sem_wait call key (sem.Acquire session n x) s = acts-wait _ x s
-  acts-sem_wait call key (sem.Release session n) s = acts-stays s
-  acts-sem_wait call key (sem.Drain session) s = acts-stays s
-  acts-sem_wait call key (sem.Increase session n) s = acts-stays s
-  acts-sem_wait call key (sem.Reduce session n) s = acts-stays s
+  acts-sem_wait call key (sem.Release session n) s = stays-by s
+  acts-sem_wait call key (sem.Drain session) s = stays-by s
+  acts-sem_wait call key (sem.Increase session n) s = stays-by s
+  acts-sem_wait call key (sem.Reduce session n) s = stays-by s
 
-  acts-on_sem : (call : Invocation) (key : Object) (l : SemOp) (r : SemOutcome) (s : GroupState) → Acts i e s (on_sem key (sem_wait call key l s) r (record s { semaphores = (sem_step key l s.semaphores).after })).change
-  acts-on_sem call key l (semaphore.Done a) s = acts-stays s
+  acts-on_sem : (call : Invocation) (key : Object) (l : SemOp) (r : SemOutcome) (s : GroupState) → ActsBy C D i e s (on_sem key (sem_wait call key l s) r (record s { semaphores = (sem_step key l s.semaphores).after })).change
+  acts-on_sem call key l (semaphore.Done a) s = stays-by s
   acts-on_sem call key l semaphore.Wants s = acts-sem_wait call key l s
   acts-on_sem call key l (semaphore.Served a) s = acts-serve key (record s { semaphores = (sem_step key l s.semaphores).after })
 
-  acts-sem : (call : Invocation) (key : Object) (l : SemOp) (s : GroupState) → Acts i e s (sem_rule call key l s).change
-  acts-sem call key l s = either (λ (r : Outcome). Acts i e s r.change) (is_behind key l s) _ _ (acts-sem_wait call key l s) (acts-on_sem call key l (sem_step key l s.semaphores).outcome s)
+  acts-sem : (call : Invocation) (key : Object) (l : SemOp) (s : GroupState) → ActsBy C D i e s (sem_rule call key l s).change
+  acts-sem call key l s = either (λ (r : Outcome). ActsBy C D i e s r.change) (is_behind key l s) _ _ (acts-sem_wait call key l s) (acts-on_sem call key l (sem_step key l s.semaphores).outcome s)
 
-  acts-latch_wait : (call : Invocation) (name : List ℕ) (l : LatchOp) (s : GroupState) → Acts i e s (latch_wait call name l s).change
-  acts-latch_wait call name latch.Count s = acts-stays s
-  acts-latch_wait call name latch.Round s = acts-stays s
-  acts-latch_wait call name (latch.Set n) s = acts-stays s
-  acts-latch_wait call name (latch.Down round) s = acts-stays s
+  acts-latch_wait : (call : Invocation) (name : List ℕ) (l : LatchOp) (s : GroupState) → ActsBy C D i e s (latch_wait call name l s).change
+  acts-latch_wait call name latch.Count s = stays-by s
+  acts-latch_wait call name latch.Round s = stays-by s
+  acts-latch_wait call name (latch.Set n) s = stays-by s
+  acts-latch_wait call name (latch.Down round) s = stays-by s
   acts-latch_wait call name (latch.Await millis) s = acts-wait _ (wish.Within millis) s
 
-  acts-on_latch : (call : Invocation) (name : List ℕ) (l : LatchOp) (r : LatchOutcome) (s : GroupState) → Acts i e s (on_latch call name l r s).change
-  acts-on_latch call name l (countdown.Done a) s = acts-stays s
+  acts-on_latch : (call : Invocation) (name : List ℕ) (l : LatchOp) (r : LatchOutcome) (s : GroupState) → ActsBy C D i e s (on_latch call name l r s).change
+  acts-on_latch call name l (countdown.Done a) s = stays-by s
   acts-on_latch call name l countdown.Wants s = acts-latch_wait call name l s
   acts-on_latch call name l countdown.Opened s = acts-end_all (waits_on kind.Latch name) (λ w. answer.Bool true) s (λ w t. tt)
 
-  acts-latch : (call : Invocation) (name : List ℕ) (l : LatchOp) (s : GroupState) → Acts i e s (latch_rule call name l s).change
+  acts-latch : (call : Invocation) (name : List ℕ) (l : LatchOp) (s : GroupState) → ActsBy C D i e s (latch_rule call name l s).change
   acts-latch call name l s = acts-on_latch call name l (latch_step s.latches name call l).outcome (record s { latches = (latch_step s.latches name call l).after })
 
   -- sessions that are opened and beaten
@@ -332,21 +371,21 @@ module _ (i : ℕ) (e : Entry) where
         let own : is_of client (Some (beaten row)) ≡ true = is_of-same client _ _ there h in all x client (is_of-same client (Some row) _ (sym here) own)
     by false t = all x client (is_of-same client _ _ (find-put_other nat_cmp number_key rows k x (beaten row) t) h)
 
-  acts-opened : (call : Invocation) (o : Option (ℕ × SessionRow)) (s : GroupState) → Acts i e s (opened i call o s).change
-  acts-opened call (Some r) s = acts-stays s
-  acts-opened call None s = either (λ (r : Outcome). Acts i e s r.change) (has_room nat_cmp most s.sessions i) _ _ (
+  acts-opened : (call : Invocation) (o : Option (ℕ × SessionRow)) (s : GroupState) → ActsBy C D i e s (opened i call o s).change
+  acts-opened call (Some r) s = stays-by s
+  acts-opened call None s = either (λ (r : Outcome). ActsBy C D i e s r.change) (has_room nat_cmp most s.sessions i) _ _ (
     λ w h. h,
-    All-nil (IsEndedBy e s),
+    All-nil (IsEndedFor C D e s),
     λ x client l h. inl (open-put s.sessions (record { client = call.client; version = 0 }) x client l h),
     λ h. open-upto s.sessions i (record { client = call.client; version = 0 }) (le_refl i) h,
     λ key h. inl h,
     memory-same s.memory,
     refl,
-  ) (acts-stays s)
+  ) (stays-by s)
 
-  acts-beat : (number : ℕ) (s : GroupState) (o : Option SessionRow) → find nat_cmp s.sessions number ≡ o → Acts i e s (beat number o s).change
-  acts-beat number s None is = acts-stays s
-  acts-beat number s (Some row) is = (λ w h. h, All-nil (IsEndedBy e s), λ x client l h. inl (open-beaten s.sessions number row is x client h), λ h. beaten-upto s.sessions number row is h, λ key h. inl h, memory-same s.memory, refl)
+  acts-beat : (number : ℕ) (s : GroupState) (o : Option SessionRow) → find nat_cmp s.sessions number ≡ o → ActsBy C D i e s (beat number o s).change
+  acts-beat number s None is = stays-by s
+  acts-beat number s (Some row) is = (λ w h. h, All-nil (IsEndedFor C D e s), λ x client l h. inl (open-beaten s.sessions number row is x client h), λ h. beaten-upto s.sessions number row is h, λ key h. inl h, memory-same s.memory, refl)
 
 -- what an entry of a call does
 among-one : (n x : ℕ) → is_among (n ∷ []) x ≡ true → n ≡ x
@@ -383,80 +422,106 @@ drop-gone name kind.Jsem s = refl
 drop-gone name kind.Latch s = refl
 drop-gone name kind.Map s = refl
 
+-- of the parts that are read here dropping rows changes the names that are gone alone
+abbrev IsReadSame : List ℕ → Kind → GroupState → Type 0
+IsReadSame name which s = let t = add_gone (name, which) (drop_rows name which s) in (t.waiters ≡ s.waiters) × (t.sessions ≡ s.sessions) × (t.memory ≡ s.memory) × (t.destroyed_group ≡ s.destroyed_group)
+
+read-same : (name : List ℕ) (which : Kind) (s : GroupState) → IsReadSame name which s
+read-same name kind.Long s = (refl, refl, refl, refl)
+read-same name kind.Ref s = (refl, refl, refl, refl)
+read-same name kind.Lock s = (refl, refl, refl, refl)
+read-same name kind.Sem s = (refl, refl, refl, refl)
+read-same name kind.Jsem s = (refl, refl, refl, refl)
+read-same name kind.Latch s = (refl, refl, refl, refl)
+read-same name kind.Map s = (refl, refl, refl, refl)
+
+-- a call closes this session, which was open
+abbrev pub ClosesNow : Op → GroupState → ℕ → Type 0
+ClosesNow o s x = (o ≡ op.Session (session.Close x)) × (is_some (find nat_cmp s.sessions x) ≡ true)
+
+-- a call destroys this object, and is told so
+abbrev pub DestroysNow : Op → Reply → Object → Type 0
+DestroysNow o reply key = (o ≡ op.Destroy key.1 key.0) × (reply ≡ Answered answer.Ok)
+
 module _ (i : ℕ) (call : Invocation) where
-  abbrev pub InCall : Op → GroupState → Change → Type 0
-  InCall o s c = Acts i (entry.Call call o) s c
+  abbrev pub ActsSo : Op → GroupState → Outcome → Type 0
+  ActsSo o s r = ActsBy (ClosesNow o s) (DestroysNow o r.reply) i (entry.Call call o) s r.change
 
-  acts-session : (l : SessionOp) (s : GroupState) → InCall (op.Session l) s (session_rule i call l s).change
-  acts-session session.Open s = acts-opened i (entry.Call call (op.Session session.Open)) call (session_of s.sessions call.client) s
-  acts-session (session.Beat number) s = acts-beat i (entry.Call call (op.Session (session.Beat number))) number s (find nat_cmp s.sessions number) refl
-  acts-session (session.Close number) s = either (λ (r : Outcome). InCall (op.Session (session.Close number)) s r.change) (is_some (find nat_cmp s.sessions number)) _ _
-      (acts-close i (entry.Call call (op.Session (session.Close number))) (number ∷ []) s (λ x t. inl (call, ap (λ n. entry.Call call (op.Session (session.Close n))) (among-one number x t)))) (acts-stays i (entry.Call call (op.Session (session.Close number))) s)
+  quiet : (o : Op) (s t : GroupState) (reply : Reply) → ActsBy (ClosesNow o s) (DestroysNow o reply) i (entry.Call call o) t (stay t)
+  quiet o s t reply = stays-by (ClosesNow o s) (DestroysNow o reply) i (entry.Call call o) t
 
-  dropped : (which : Kind) (name : List ℕ) (s : GroupState) → GroupState
-  dropped which name s = add_gone (name, which) (drop_rows name which s)
+  so-session : (l : SessionOp) (s : GroupState) → ActsSo (op.Session l) s (session_rule i call l s)
+  so-session session.Open s = acts-opened (ClosesNow (op.Session session.Open) s) (DestroysNow (op.Session session.Open) (session_rule i call session.Open s).reply) i (entry.Call call (op.Session session.Open)) call (session_of s.sessions call.client) s
+  so-session (session.Beat number) s = acts-beat (ClosesNow (op.Session (session.Beat number)) s) (DestroysNow (op.Session (session.Beat number)) (session_rule i call (session.Beat number) s).reply) i (entry.Call call (op.Session (session.Beat number))) number s (find nat_cmp s.sessions number) refl
+  so-session (session.Close number) s = cases (λ (r : Outcome). ActsSo (op.Session (session.Close number)) s r) (is_some (find nat_cmp s.sessions number)) _ _
+      (λ there. acts-close (ClosesNow (op.Session (session.Close number)) s) (DestroysNow (op.Session (session.Close number)) (Answered answer.Ok)) i (entry.Call call (op.Session (session.Close number))) (number ∷ []) s (λ x t. closes there x (among-one number x t)))
+      (λ none. quiet (op.Session (session.Close number)) s s (Answered answer.Ok))
+    where
+      closes : is_some (find nat_cmp s.sessions number) ≡ true → (x : ℕ) → number ≡ x → ClosesNow (op.Session (session.Close number)) s x
+      closes there x same = (ap (λ n. op.Session (session.Close n)) same, subst (λ n. is_some (find nat_cmp s.sessions n) ≡ true) same there)
 
-  end-dropped : (which : Kind) (name : List ℕ) (s : GroupState) → InCall (op.Destroy which name) (add_gone (name, which) (drop_rows name which s)) (end_all (waits_on which name) (λ w. answer.ObjectDestroyed) (add_gone (name, which) (drop_rows name which s)))
-  end-dropped which name s = acts-end_all i (entry.Call call (op.Destroy which name)) (waits_on which name) (λ w. answer.ObjectDestroyed) (add_gone (name, which) (drop_rows name which s))
-      (λ w t. (call, ap (λ (k : Object). entry.Call call (op.Destroy k.1 k.0)) (waits-object which name w t)))
+  -- an object is destroyed
+  module _ (which : Kind) (name : List ℕ) (s : GroupState) where
+    abbrev o : Op
+    o = op.Destroy which name
 
-  gone-now : (which : Kind) (name : List ℕ) (s : GroupState) (key : Object) → is_some (find object_cmp (put object_cmp (drop_rows name which s).gone (name, which) tt) key) ≡ true → (is_gone s key ≡ true) ⊎ Destroys (entry.Call call (op.Destroy which name)) key
-  gone-now which name s key h = by (is_at (object_cmp key) (name, which)) refl where
-    by : (b : Bool) → is_at (object_cmp key) (name, which) ≡ b → (is_gone s key ≡ true) ⊎ Destroys (entry.Call call (op.Destroy which name)) key
-    by true t = inr (call, ap (λ (k : Object). entry.Call call (op.Destroy k.1 k.0)) (sym (object_key.same key (name, which) (equal_is _ t))))
-    by false t = inl (subst (λ rows. is_some (find object_cmp rows key) ≡ true) (drop-gone name which s) (subst (λ (o : Option (Unit {0})). is_some o ≡ true) (find-put_other object_cmp object_key (drop_rows name which s).gone (name, which) key tt t) h))
+    abbrev C : ℕ → Type 0
+    C x = ClosesNow (op.Destroy which name) s x
 
-  -- of the parts that are read here dropping rows changes the names that are gone alone
-  from-dropped : (which : Kind) (name : List ℕ) (s : GroupState) (c : Change) → InCall (op.Destroy which name) (add_gone (name, which) (drop_rows name which s)) c → InCall (op.Destroy which name) s c
-  from-dropped kind.Long name s c f = (f.0, f.1, f.2, f.3, λ key h. after key (f.4 key h), f.5, f.6) where
-    after : (key : Object) → (is_gone (add_gone (name, kind.Long) (drop_rows name kind.Long s)) key ≡ true) ⊎ Destroys (entry.Call call (op.Destroy kind.Long name)) key → (is_gone s key ≡ true) ⊎ Destroys (entry.Call call (op.Destroy kind.Long name)) key
-    after key (inl h) = gone-now kind.Long name s key h
-    after key (inr h) = inr h
-  from-dropped kind.Ref name s c f = (f.0, f.1, f.2, f.3, λ key h. after key (f.4 key h), f.5, f.6) where
-    after : (key : Object) → (is_gone (add_gone (name, kind.Ref) (drop_rows name kind.Ref s)) key ≡ true) ⊎ Destroys (entry.Call call (op.Destroy kind.Ref name)) key → (is_gone s key ≡ true) ⊎ Destroys (entry.Call call (op.Destroy kind.Ref name)) key
-    after key (inl h) = gone-now kind.Ref name s key h
-    after key (inr h) = inr h
-  from-dropped kind.Lock name s c f = (f.0, f.1, f.2, f.3, λ key h. after key (f.4 key h), f.5, f.6) where
-    after : (key : Object) → (is_gone (add_gone (name, kind.Lock) (drop_rows name kind.Lock s)) key ≡ true) ⊎ Destroys (entry.Call call (op.Destroy kind.Lock name)) key → (is_gone s key ≡ true) ⊎ Destroys (entry.Call call (op.Destroy kind.Lock name)) key
-    after key (inl h) = gone-now kind.Lock name s key h
-    after key (inr h) = inr h
-  from-dropped kind.Sem name s c f = (f.0, f.1, f.2, f.3, λ key h. after key (f.4 key h), f.5, f.6) where
-    after : (key : Object) → (is_gone (add_gone (name, kind.Sem) (drop_rows name kind.Sem s)) key ≡ true) ⊎ Destroys (entry.Call call (op.Destroy kind.Sem name)) key → (is_gone s key ≡ true) ⊎ Destroys (entry.Call call (op.Destroy kind.Sem name)) key
-    after key (inl h) = gone-now kind.Sem name s key h
-    after key (inr h) = inr h
-  from-dropped kind.Jsem name s c f = (f.0, f.1, f.2, f.3, λ key h. after key (f.4 key h), f.5, f.6) where
-    after : (key : Object) → (is_gone (add_gone (name, kind.Jsem) (drop_rows name kind.Jsem s)) key ≡ true) ⊎ Destroys (entry.Call call (op.Destroy kind.Jsem name)) key → (is_gone s key ≡ true) ⊎ Destroys (entry.Call call (op.Destroy kind.Jsem name)) key
-    after key (inl h) = gone-now kind.Jsem name s key h
-    after key (inr h) = inr h
-  from-dropped kind.Latch name s c f = (f.0, f.1, f.2, f.3, λ key h. after key (f.4 key h), f.5, f.6) where
-    after : (key : Object) → (is_gone (add_gone (name, kind.Latch) (drop_rows name kind.Latch s)) key ≡ true) ⊎ Destroys (entry.Call call (op.Destroy kind.Latch name)) key → (is_gone s key ≡ true) ⊎ Destroys (entry.Call call (op.Destroy kind.Latch name)) key
-    after key (inl h) = gone-now kind.Latch name s key h
-    after key (inr h) = inr h
-  from-dropped kind.Map name s c f = (f.0, f.1, f.2, f.3, λ key h. after key (f.4 key h), f.5, f.6) where
-    after : (key : Object) → (is_gone (add_gone (name, kind.Map) (drop_rows name kind.Map s)) key ≡ true) ⊎ Destroys (entry.Call call (op.Destroy kind.Map name)) key → (is_gone s key ≡ true) ⊎ Destroys (entry.Call call (op.Destroy kind.Map name)) key
-    after key (inl h) = gone-now kind.Map name s key h
-    after key (inr h) = inr h
+    abbrev D : Object → Type 0
+    D key = DestroysNow (op.Destroy which name) (Answered answer.Ok) key
 
-  acts-destroy : (which : Kind) (name : List ℕ) (s : GroupState) → InCall (op.Destroy which name) s (destroy_rule which name s).change
-  acts-destroy which name s = either (λ (r : Outcome). InCall (op.Destroy which name) s r.change) (has_room object_cmp most s.gone (name, which)) _ _
-      (from-dropped which name s (end_all (waits_on which name) (λ w. answer.ObjectDestroyed) (add_gone (name, which) (drop_rows name which s))) (end-dropped which name s)) (acts-stays i (entry.Call call (op.Destroy which name)) s)
+    abbrev dropped : GroupState
+    dropped = add_gone (name, which) (drop_rows name which s)
 
-  acts-rule : (o : Op) (s : GroupState) → InCall o s (rule i call o s).change
-  acts-rule (op.Long name l) s = acts-stays i (entry.Call call (op.Long name l)) (record s { longs = (long_step s.longs name l).after })
-  acts-rule (op.Ref name l) s = acts-stays i (entry.Call call (op.Ref name l)) (record s { refs = (ref_step s.refs name l).after })
-  acts-rule (op.Map name l) s = acts-stays i (entry.Call call (op.Map name l)) (record s { maps = (map_step s.maps name l).after })
-  acts-rule (op.Lock name l) s = acts-lock i (entry.Call call (op.Lock name l)) call name l s
-  acts-rule (op.Sem name l) s = acts-sem i (entry.Call call (op.Sem name l)) call (name, kind.Sem) l s
-  acts-rule (op.Jsem name l) s = acts-sem i (entry.Call call (op.Jsem name l)) call (name, kind.Jsem) l s
-  acts-rule (op.Latch name l) s = acts-latch i (entry.Call call (op.Latch name l)) call name l s
-  acts-rule (op.Session l) s = acts-session l s
-  acts-rule (op.Destroy which name) s = acts-destroy which name s
-  acts-rule (op.Group l) s = acts-stays i (entry.Call call (op.Group l)) s
-  acts-rule (op.Member l) s = acts-stays i (entry.Call call (op.Member l)) s
-  acts-rule (op.Change l) s = acts-stays i (entry.Call call (op.Change l)) s
+    this : (key : Object) → object_named name which ≡ key → D key
+    this key same = (ap (λ (k : Object). op.Destroy k.1 k.0) same, refl)
 
-  pub acts-outcome : (o : Op) (s : GroupState) → InCall o s (outcome i call o s).change
-  acts-outcome o s = either (λ (r : Outcome). InCall o s r.change) (names_gone s (object_of o)) _ _ (acts-stays i (entry.Call call o) s) (acts-rule o s)
+    end-dropped : ActsBy C D i (entry.Call call o) dropped (end_all (waits_on which name) (λ w. answer.ObjectDestroyed) dropped)
+    end-dropped = acts-end_all C D i (entry.Call call o) (waits_on which name) (λ w. answer.ObjectDestroyed) dropped (λ w t. this (object_waited w) (waits-object which name w t))
+
+    gone-now : (key : Object) → is_some (find object_cmp (put object_cmp (drop_rows name which s).gone (name, which) tt) key) ≡ true → (is_gone s key ≡ true) ⊎ D key
+    gone-now key h = by (is_at (object_cmp key) (name, which)) refl where
+      by : (b : Bool) → is_at (object_cmp key) (name, which) ≡ b → (is_gone s key ≡ true) ⊎ D key
+      by true t = inr (this key (sym (object_key.same key (name, which) (equal_is _ t))))
+      by false t = inl (subst (λ rows. is_some (find object_cmp rows key) ≡ true) (drop-gone name which s) (subst (λ (o : Option (Unit {0})). is_some o ≡ true) (find-put_other object_cmp object_key (drop_rows name which s).gone (name, which) key tt t) h))
+
+    gone-after : (key : Object) → (is_gone dropped key ≡ true) ⊎ D key → (is_gone s key ≡ true) ⊎ D key
+    gone-after key (inl h) = gone-now key h
+    gone-after key (inr h) = inr h
+
+    -- of the parts that are read here dropping rows changes the names that are gone alone
+    from-dropped : (c : Change) → IsReadSame name which s → ActsBy C D i (entry.Call call o) dropped c → ActsBy C D i (entry.Call call o) s c
+    from-dropped c same f = (
+      λ w h. subst (λ ws. Contains ws w) same.0 (f.0 w h),
+      All-weaker (IsEndedFor C D (entry.Call call o) dropped) (IsEndedFor C D (entry.Call call o) s) (λ x h. (subst (λ ws. Contains ws x.waiter) same.0 h.0, h.1)) c.ended f.1,
+      λ x client l h. f.2 x client l (subst (λ rows. is_open_for rows x client ≡ true) (sym same.1) h),
+      λ h. f.3 (λ x client k. h x client (subst (λ rows. is_open_for rows x client ≡ true) same.1 k)),
+      λ key h. gone-after key (f.4 key h),
+      subst (λ rows. MemoryStays rows c.state.memory) same.2 f.5,
+      f.6 ∙ same.3,
+    )
+
+    so-destroy : ActsSo (op.Destroy which name) s (destroy_rule which name s)
+    so-destroy = either (λ (r : Outcome). ActsSo (op.Destroy which name) s r) (has_room object_cmp most s.gone (name, which)) _ _
+        (from-dropped (end_all (waits_on which name) (λ w. answer.ObjectDestroyed) dropped) (read-same name which s) end-dropped) (quiet (op.Destroy which name) s s (Answered (answer.TableFull most)))
+
+  so-rule : (o : Op) (s : GroupState) → ActsSo o s (rule i call o s)
+  so-rule (op.Long name l) s = quiet (op.Long name l) s (record s { longs = (long_step s.longs name l).after }) (Answered (long_step s.longs name l).answer)
+  so-rule (op.Ref name l) s = quiet (op.Ref name l) s (record s { refs = (ref_step s.refs name l).after }) (Answered (ref_step s.refs name l).answer)
+  so-rule (op.Map name l) s = quiet (op.Map name l) s (record s { maps = (map_step s.maps name l).after }) (Answered (map_step s.maps name l).answer)
+  so-rule (op.Lock name l) s = acts-lock (ClosesNow (op.Lock name l) s) (DestroysNow (op.Lock name l) (lock_rule i call name l s).reply) i (entry.Call call (op.Lock name l)) call name l s
+  so-rule (op.Sem name l) s = acts-sem (ClosesNow (op.Sem name l) s) (DestroysNow (op.Sem name l) (sem_rule call (name, kind.Sem) l s).reply) i (entry.Call call (op.Sem name l)) call (name, kind.Sem) l s
+  so-rule (op.Jsem name l) s = acts-sem (ClosesNow (op.Jsem name l) s) (DestroysNow (op.Jsem name l) (sem_rule call (name, kind.Jsem) l s).reply) i (entry.Call call (op.Jsem name l)) call (name, kind.Jsem) l s
+  so-rule (op.Latch name l) s = acts-latch (ClosesNow (op.Latch name l) s) (DestroysNow (op.Latch name l) (latch_rule call name l s).reply) i (entry.Call call (op.Latch name l)) call name l s
+  so-rule (op.Session l) s = so-session l s
+  so-rule (op.Destroy which name) s = so-destroy which name s
+  so-rule (op.Group l) s = quiet (op.Group l) s s (Answered answer.Ok)
+  so-rule (op.Member l) s = quiet (op.Member l) s s (Answered answer.Ok)
+  so-rule (op.Change l) s = quiet (op.Change l) s s (Answered answer.Ok)
+
+  pub outcome-by : (o : Op) (s : GroupState) → ActsSo o s (outcome i call o s)
+  outcome-by o s = either (λ (r : Outcome). ActsSo o s r) (names_gone s (object_of o)) _ _ (quiet o s s (Answered answer.ObjectDestroyed)) (so-rule o s)
 
   and-first : (a b : Bool) → (a && b) ≡ true → a ≡ true
   and-first true b h = refl
@@ -484,19 +549,22 @@ module _ (i : ℕ) (call : Invocation) where
         test_less w.call.number call.number (and-last (call.thread.0 == w.call.thread.0) (nat_lt w.call.number call.number) r),
       )
 
-  pub acts-supersede : (o : Op) (s : GroupState) → InCall o s (supersede call s)
-  acts-supersede o s = acts-serve_each_left i (entry.Call call o) s _ (acts-end_all i (entry.Call call o) (is_older call) (λ w. answer.WaitCancelled call.number) s (λ w t. overtakes o w t))
+  pub supersede-by : (C : ℕ → Type 0) (D : Object → Type 0) (o : Op) (s : GroupState) → ActsBy C D i (entry.Call call o) s (supersede call s)
+  supersede-by C D o s = acts-serve_each_left C D i (entry.Call call o) s _ (acts-end_all C D i (entry.Call call o) (is_older call) (λ w. answer.WaitCancelled call.number) s (λ w t. overtakes o w t))
 
 -- the other entries that end waits
-pub acts-time_out : (i : ℕ) (calls : List Invocation) (s : GroupState) → Acts i (entry.WaitsExpired calls) s (serve_left (for_each time_out calls s))
-acts-time_out i calls s = acts-serve_left i (entry.WaitsExpired calls) s _ (each calls s (λ c h. h)) where
-  each : (some : List Invocation) (t : GroupState) → ((c : Invocation) → Contains some c → Contains calls c) → Acts i (entry.WaitsExpired calls) t (for_each time_out some t)
-  each [] t f = acts-stays i (entry.WaitsExpired calls) t
-  each (c ∷ some) t f = acts-joins i (entry.WaitsExpired calls) t (time_out c t) (for_each time_out some (time_out c t).state)
-      (acts-end_all i (entry.WaitsExpired calls) (λ w. same_call c w.call) (λ w. answer.TimedOut) t (λ w h. (calls, refl, subst (Contains calls) (same-call c w.call h) (f c (at-head c some)))))
+pub time_out-by : (C : ℕ → Type 0) (D : Object → Type 0) (i : ℕ) (calls : List Invocation) (s : GroupState) → ActsBy C D i (entry.WaitsExpired calls) s (serve_left (for_each time_out calls s))
+time_out-by C D i calls s = acts-serve_left C D i (entry.WaitsExpired calls) s _ (each calls s (λ c h. h)) where
+  each : (some : List Invocation) (t : GroupState) → ((c : Invocation) → Contains some c → Contains calls c) → ActsBy C D i (entry.WaitsExpired calls) t (for_each time_out some t)
+  each [] t f = stays-by C D i (entry.WaitsExpired calls) t
+  each (c ∷ some) t f = acts-joins C D i (entry.WaitsExpired calls) t (time_out c t) (for_each time_out some (time_out c t).state)
+      (acts-end_all C D i (entry.WaitsExpired calls) (λ w. same_call c w.call) (λ w. answer.TimedOut) t (λ w h. (calls, refl, subst (Contains calls) (same-call c w.call h) (f c (at-head c some)))))
       (each some (time_out c t).state (λ d h. f d (at-tail c d some h)))
 
-unchanged-among : (rows : List (ℕ × SessionRow)) (pairs : List (ℕ × ℕ)) (x : ℕ) → is_among (unchanged_since rows pairs) x ≡ true → Contains (map (λ p. p.0) pairs) x
+pub destroy-by : (C : ℕ → Type 0) (D : Object → Type 0) (i : ℕ) (group : GroupId) (s : GroupState) → ActsBy C D i (entry.Destroy group) s (end_all (λ w. true) (λ w. answer.GroupDestroyed group) s)
+destroy-by C D i group s = acts-end_all C D i (entry.Destroy group) (λ w. true) (λ w. answer.GroupDestroyed group) s (λ w t. refl)
+
+pub unchanged-among : (rows : List (ℕ × SessionRow)) (pairs : List (ℕ × ℕ)) (x : ℕ) → is_among (unchanged_since rows pairs) x ≡ true → Contains (map (λ p. p.0) pairs) x
 unchanged-among rows [] x h = absurd (no h) where
   no : false ≡ true → ⊥
   no e = cc
@@ -515,5 +583,50 @@ unchanged-among rows (p ∷ pairs) x h = let rest = unchanged-among rows pairs x
     passed : is_at_version p.1 (find nat_cmp rows p.0) ≡ false → filter (λ q. is_at_version q.1 (find nat_cmp rows q.0)) (p ∷ pairs) ≡ filter (λ q. is_at_version q.1 (find nat_cmp rows q.0)) pairs
     passed k = rw k refl
 
+-- sessions that expire were open
+pub unchanged-open : (rows : List (ℕ × SessionRow)) (pairs : List (ℕ × ℕ)) (x : ℕ) → is_among (unchanged_since rows pairs) x ≡ true → is_some (find nat_cmp rows x) ≡ true
+unchanged-open rows [] x h = absurd (no h) where
+  no : false ≡ true → ⊥
+  no e = cc
+unchanged-open rows (p ∷ pairs) x h = let rest = unchanged-open rows pairs x in by (is_at_version p.1 (find nat_cmp rows p.0)) refl rest h where
+  at_version : (v : ℕ) (o : Option SessionRow) → is_at_version v o ≡ true → is_some o ≡ true
+  at_version v None e = e
+  at_version v (Some row) e = refl
+
+  by : (b : Bool) → is_at_version p.1 (find nat_cmp rows p.0) ≡ b → (is_among (unchanged_since rows pairs) x ≡ true → is_some (find nat_cmp rows x) ≡ true) → is_among (unchanged_since rows (p ∷ pairs)) x ≡ true → is_some (find nat_cmp rows x) ≡ true
+  by true e rest h = at (p.0 == x) refl (subst (λ (ps : List (ℕ × ℕ)). is_among (map (λ q. q.0) ps) x ≡ true) (picked e) h) where
+    picked : is_at_version p.1 (find nat_cmp rows p.0) ≡ true → filter (λ q. is_at_version q.1 (find nat_cmp rows q.0)) (p ∷ pairs) ≡ p ∷ filter (λ q. is_at_version q.1 (find nat_cmp rows q.0)) pairs
+    picked k = rw k refl
+
+    at : (b : Bool) → (p.0 == x) ≡ b → is_among (p.0 ∷ unchanged_since rows pairs) x ≡ true → is_some (find nat_cmp rows x) ≡ true
+    at true k g = subst (λ n. is_some (find nat_cmp rows n) ≡ true) (test p.0 x k) (at_version p.1 (find nat_cmp rows p.0) e) where
+      test : (a b : ℕ) → (a == b) ≡ true → a ≡ b
+      test a b h = grind (arith, nat_tests)
+    at false k g = rest (subst (λ (c : Bool). (c || is_among (unchanged_since rows pairs) x) ≡ true) k g)
+  by false e rest h = rest (subst (λ (ps : List (ℕ × ℕ)). is_among (map (λ q. q.0) ps) x ≡ true) (passed e) h) where
+    passed : is_at_version p.1 (find nat_cmp rows p.0) ≡ false → filter (λ q. is_at_version q.1 (find nat_cmp rows q.0)) (p ∷ pairs) ≡ filter (λ q. is_at_version q.1 (find nat_cmp rows q.0)) pairs
+    passed k = rw k refl
+
+abbrev pub Expires : List (ℕ × ℕ) → GroupState → ℕ → Type 0
+Expires pairs s x = is_among (unchanged_since s.sessions pairs) x ≡ true
+
+pub expire-by : (D : Object → Type 0) (i : ℕ) (pairs : List (ℕ × ℕ)) (s : GroupState) → ActsBy (Expires pairs s) D i (entry.SessionsExpired pairs) s (close i (unchanged_since s.sessions pairs) s)
+expire-by D i pairs s = acts-close (Expires pairs s) D i (entry.SessionsExpired pairs) (unchanged_since s.sessions pairs) s (λ x h. h)
+
+-- ---- by what the entry is alone
+pub acts-stays : (i : ℕ) (e : Entry) (s : GroupState) → Acts i e s (stay s)
+acts-stays i e s = stays-by (Closes e) (Destroys e) i e s
+
+pub acts-outcome : (i : ℕ) (call : Invocation) (o : Op) (s : GroupState) → Acts i (entry.Call call o) s (outcome i call o s).change
+acts-outcome i call o s = acts-weaker (ClosesNow o s) (Closes (entry.Call call o)) (DestroysNow o (outcome i call o s).reply) (Destroys (entry.Call call o))
+    (λ x h. inl (call, ap (entry.Call call) h.0)) (λ key h. (call, ap (entry.Call call) h.0)) i (entry.Call call o) s (outcome i call o s).change (outcome-by i call o s)
+
+pub acts-supersede : (i : ℕ) (call : Invocation) (o : Op) (s : GroupState) → Acts i (entry.Call call o) s (supersede call s)
+acts-supersede i call o s = supersede-by i call (Closes (entry.Call call o)) (Destroys (entry.Call call o)) o s
+
+pub acts-time_out : (i : ℕ) (calls : List Invocation) (s : GroupState) → Acts i (entry.WaitsExpired calls) s (serve_left (for_each time_out calls s))
+acts-time_out i calls s = time_out-by (Closes (entry.WaitsExpired calls)) (Destroys (entry.WaitsExpired calls)) i calls s
+
 pub acts-expire : (i : ℕ) (pairs : List (ℕ × ℕ)) (s : GroupState) → Acts i (entry.SessionsExpired pairs) s (close i (unchanged_since s.sessions pairs) s)
-acts-expire i pairs s = acts-close i (entry.SessionsExpired pairs) (unchanged_since s.sessions pairs) s (λ x h. inr (pairs, refl, unchanged-among s.sessions pairs x h))
+acts-expire i pairs s = acts-weaker (Expires pairs s) (Closes (entry.SessionsExpired pairs)) (Destroys (entry.SessionsExpired pairs)) (Destroys (entry.SessionsExpired pairs))
+    (λ x h. inr (pairs, refl, unchanged-among s.sessions pairs x h)) (λ key h. h) i (entry.SessionsExpired pairs) s (close i (unchanged_since s.sessions pairs) s) (expire-by (Destroys (entry.SessionsExpired pairs)) i pairs s)

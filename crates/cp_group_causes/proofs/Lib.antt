@@ -3,3 +3,4 @@ pub mod Acts
 pub mod Rules
 pub mod After
 pub mod Caused
+pub mod WrongHistories

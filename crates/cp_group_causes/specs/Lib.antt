@@ -1,3 +1,4 @@
 pub mod Moments
 pub mod Causes
 pub mod Laws
+pub mod WrongHistories

@@ -1,5 +1,5 @@
 -- Moments of a history.
-use Rattle.std.specs.Prelude.{◌≡◌, ℕ, ◌+◌, ◌<◌, ◌≤◌, true, List, [], ◌∷◌, Option, Some, None, slice_get, zero, suc}
+use Rattle.std.specs.Prelude.{◌≡◌, ℕ, ◌<◌, ◌≤◌, true, Option, Some, None, slice_get}
 use Rattle.cp_base.specs.declared.identifier.ClientId.{ClientId}
 use Rattle.cp_base.specs.declared.identifier.Invocation.{Invocation}
 use Rattle.cp_ops.specs.declared.entry.Entry.{Entry}
@@ -8,10 +8,9 @@ use Rattle.cp_ops.specs.declared.op.Op.{Op}
 use Rattle.cp_ops.specs.declared.op.Op.TheVariants as op
 use Rattle.cp_ops.specs.declared.session_op.SessionOp.{SessionOp}
 use Rattle.cp_ops.specs.declared.session_op.SessionOp.TheVariants as session
-use Rattle.cp_group_state.specs.GroupState.{GroupState, empty}
 use Rattle.cp_group_state.specs.Sessions.{is_open_for}
-use Rattle.cp_group_state.specs.Apply.{apply}
 use Rattle.cp_group_state.specs.History.{History}
+pub use Rattle.cp_group_state.specs.History.{state_after, state_before}
 use Rattle.cp_group_state.specs.Protected.{session_in}
 
 -- The entry has this index in the history, or a lower one. Indexes are counted from 1, places from 0.
@@ -19,16 +18,6 @@ pub record StandsBy (history : History) (index : ℕ) (e : Entry) : Type 0 where
   pub place : ℕ
   pub in_time : place < index
   pub there : slice_get history place ≡ Some e
-
--- the state after so many of these entries, of which the first has this index
-abbrev pub state_after : ℕ → ℕ → List Entry → GroupState → GroupState
-state_after zero index es s = s
-state_after (suc n) index [] s = s
-state_after (suc n) index (e ∷ es) s = state_after n (index + 1) es (apply index e s).state
-
--- the state that the entry at this place, counted from 0, meets
-abbrev pub state_before : History → ℕ → GroupState
-state_before history place = state_after place 1 history empty
 
 abbrev pub session_of_session : SessionOp → Option ℕ
 session_of_session session.Open = None

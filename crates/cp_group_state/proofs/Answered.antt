@@ -23,7 +23,7 @@ use Rattle.cp_group_state.specs.Outcomes.{Reply, Answered, Waits}
 use Rattle.cp_group_state.specs.Protected.{session_in}
 use Rattle.cp_group_state.specs.Closing.{close}
 use Rattle.cp_group_state.specs.Serving.{serve_left}
-use Rattle.cp_group_state.specs.Fences.{IsHeldUnder, FencesStand}
+use Rattle.cp_group_state.specs.Fences.{IsHeldUnder}
 use Rattle.cp_group_state.specs.History.{IsOrderly, IsOrderlyFrom}
 use Rattle.cp_group_state.proofs.Rising.{Rising}
 use Rattle.cp_group_state.proofs.Walk.{cases, either, walk_supersede}
@@ -32,7 +32,7 @@ use Rattle.cp_group_state.proofs.Told.{Told, Tells, tells_closed, told-apply}
 use Rattle.cp_group_state.proofs.Fences.{locks-apply, LocksHold, locks_closed}
 use Rattle.cp_group_state.proofs.Walk.{walk_close}
 use Rattle.cp_group_state.proofs.Stand.{IsGiven, NoFence, no-held, IsQuietEnd, EndedStand, quiet-answers, quiet-supersede, quiet-time_out, stand-close}
-use Rattle.cp_group_state.proofs.Own.{IsOwnHeld, OwnStands, AskedBy, outcome-stands}
+use Rattle.cp_group_state.proofs.Own.{IsOwnHeld, OwnStands, AskedBy, NamedBy, outcome-stands}
 use Rattle.cp_group_state.proofs.Asked.{IsAsked, AllAsked, EndsAsked, KeepsAsked, asked_closed, asked-outcome, asked-supersede, asked-apply, given-held}
 
 module _ (all : List Entry) where
@@ -52,8 +52,9 @@ module _ (all : List Entry) where
   told-quiet locks ended h = All-map (λ (a : Invocation × Answer). IsHeldUnder all locks a.0 a.1) (λ e. (e.waiter.call, e.answer)) ended
       (All-weaker (λ (e : Ended). NoFence e.answer) (λ (e : Ended). IsHeldUnder all locks e.waiter.call e.answer) (λ e k. no-held all locks e.waiter.call e.answer k) ended h)
 
-  own-held : (call : Invocation) (o : Op) (locks : List (List ℕ × LockRow)) (a : Answer) → Contains all (entry.Call call o) → IsOwnHeld (AskedBy o) locks call.thread a → IsHeldUnder all locks call a
+  own-held : (call : Invocation) (o : Op) (locks : List (List ℕ × LockRow)) (a : Answer) → Contains all (entry.Call call o) → IsOwnHeld (AskedBy o) (NamedBy o) locks call.thread a → IsHeldUnder all locks call a
   own-held call o locks (answer.Fence f) there h = (h.0, h.1, (o, there, h.2.0, h.2.1), h.3, h.4, h.5)
+  own-held call o locks (answer.Held session thread holds f) there h = (h.0, (o, there, h.1), h.2, h.3, h.4, h.5)
   own-held call o locks a there h = tt
 
   none : (locks : List (List ℕ × LockRow)) → AnswersStand locks []
@@ -67,7 +68,7 @@ module _ (all : List Entry) where
   remembered-locks None call a s = refl
   remembered-locks (Some session) call a s = refl
 
-  settle-locked : (so : Option ℕ) (call : Invocation) (o : Op) (r : Reply) (c : Change) → Contains all (entry.Call call o) → EndedStand c.state.locks c.ended → EndsAsked all c.ended → OwnStands (AskedBy o) call c.state.locks r → StepLocked c.state.locks (settle so call r c)
+  settle-locked : (so : Option ℕ) (call : Invocation) (o : Op) (r : Reply) (c : Change) → Contains all (entry.Call call o) → EndedStand c.state.locks c.ended → EndsAsked all c.ended → OwnStands (AskedBy o) (NamedBy o) call c.state.locks r → StepLocked c.state.locks (settle so call r c)
   settle-locked so call o (Answered a) c there h asked own = (remembered-locks so call (Some a) c.state, All-cons (λ (a : Invocation × Answer). IsHeldUnder all c.state.locks a.0 a.1) (call, a) (told c.ended) (own-held call o c.state.locks a there own) (told-stand c.state.locks c.ended h asked))
   settle-locked so call o (Waits w) c there h asked own = let x = wait in (x.0, All-append (λ (a : Invocation × Answer). IsHeldUnder all c.state.locks a.0 a.1) (told c.ended) (settle_wait so call w c.state).answers (told-stand c.state.locks c.ended h asked) x.1)
     where
@@ -172,7 +173,12 @@ module _ (all : List Entry) where
   within-le : (a b : ℕ) (rows : List (List ℕ × LatchRow)) → a ≤ b → RoundsWithin a rows → RoundsWithin b rows
   within-le a b rows l h = λ k d m. let x = h k d m in omega arith
 
-  stand-from : (b i : ℕ) (past : List (Invocation × Answer)) (es : List Entry) (s : GroupState) → ((e : Entry) → Contains es e → Contains all e) → b + length es ≤ 2 ^ 62 → Rising name_cmp s.locks → AllAsked all s → RoundsWithin b s.latches → Told i past s → IsOrderlyFrom i es s → FencesStand all past (run i es s)
+  -- each fence of a run is that of a lock which is so held after the entry, or it was told before
+  abbrev pub StandFrom : List (Invocation × Answer) → List Applied → Type 0
+  StandFrom past [] = Unit {0}
+  StandFrom past (x ∷ xs) = StepStands past x × StandFrom (past ++ x.answers) xs
+
+  stand-from : (b i : ℕ) (past : List (Invocation × Answer)) (es : List Entry) (s : GroupState) → ((e : Entry) → Contains es e → Contains all e) → b + length es ≤ 2 ^ 62 → Rising name_cmp s.locks → AllAsked all s → RoundsWithin b s.latches → Told i past s → IsOrderlyFrom i es s → StandFrom past (run i es s)
   stand-from b i past [] s sub few h asked rounds told_all ord = tt
   stand-from b i past (e ∷ es) s sub few h asked rounds told_all ord = let there : Contains all e = sub e (Contains-append_left (e ∷ []) es e (Contains-push [] e)) in (
     apply-stands i past e s there h asked told_all,
@@ -186,7 +192,7 @@ no-element x h = let l = h.1 in absurd (omega arith)
 no_row : (session thread : ℕ) (row : MemoryRow) → find holder_cmp empty.memory (session, thread) ≡ Some row → ⊥
 no_row session thread row e = cc
 
-pub fences-stand : (es : List Entry) → IsOrderly es → FencesStand es [] (run 1 es empty)
+pub run-stands : (es : List Entry) → IsOrderly es → StandFrom es [] (run 1 es empty)
 unfolding IsStrictlySortedBy
-fences-stand es orderly = stand-from es 0 1 [] es empty (λ e h. h) (let f = orderly.few in omega arith) tt (λ w h. absurd (no-element w h)) (All-nil (λ (r : LatchRow). r.round ≤ 0))
+run-stands es orderly = stand-from es 0 1 [] es empty (λ e h. h) (let f = orderly.few in omega arith) tt (λ w h. absurd (no-element w h)) (All-nil (λ (r : LatchRow). r.round ≤ 0))
     (record { waiters = λ w h. absurd (no-element w h); memory = λ session thread row e. absurd (no_row session thread row e) }) orderly.entries

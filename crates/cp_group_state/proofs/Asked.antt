@@ -259,4 +259,5 @@ module _ (all : List Entry) where
 
       memory : memory_of w ≡ Some w.session
       memory = subst (λ (k : Kind). (if has_memory k then Some w.session else None) ≡ Some w.session) kind_is refl
+  given-held locks w (answer.Held session thread holds f) asked h = absurd h
   given-held locks w a asked h = tt

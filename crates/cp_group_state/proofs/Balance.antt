@@ -31,12 +31,13 @@ use Rattle.cp_group_state.specs.GroupState.{GroupState, empty}
 use Rattle.cp_group_state.specs.Changes.{Change}
 use Rattle.cp_group_state.specs.Destroying.{add_gone, drop_rows}
 use Rattle.cp_group_state.specs.Protected.{session_in}
-use Rattle.cp_group_state.specs.Apply.{Applied, run, apply, apply_call, is_elsewhere, supersede}
+use Rattle.cp_group_state.specs.Apply.{Applied, apply, apply_call, is_elsewhere, supersede}
+use Rattle.cp_group_state.specs.History.{state_before}
 use Rattle.cp_group_state.specs.Invariants.{Always, HoldingsStand, IsBalanced, IsBalancedAt, held_by_all, held_of}
 use Rattle.cp_group_state.proofs.Keyed.{equal_is, pair_same, find-put_same, find-put_other, find-without_other, object_key}
 use Rattle.cp_group_state.proofs.Rising.{Rising, rising-without, rising-filter, find-without_same, less-none, above-all}
 use Rattle.cp_group_state.proofs.Walk.{cases, either, Closed, walk_supersede, walk_outcome, walk_on_latch, walk_close, walk_time_out, keep_session}
-use Rattle.cp_group_state.proofs.Ordered.{SemsRise, object_total, holding_total, holding_key, take_all-rises, step-rises, keys-map}
+use Rattle.cp_group_state.proofs.Ordered.{always, SemsRise, object_total, holding_total, holding_key, take_all-rises, step-rises, keys-map}
 
 abbrev pub Holdings : Type 0
 Holdings = List ((ℕ × List ℕ) × ℕ)
@@ -453,13 +454,11 @@ holdings-stand s h session name n is = (positive, at (find object_cmp s.rows (na
         let one : held s.holdings session name ≡ n = ap (λ (o : Option ℕ). unwrap_or o 0) is in
         absurd (omega (arith, positive))
 
-all-states : (Q : Semaphores → Type 0) → ((s : Semaphores) → Balances s → Q s) → (es : List Entry) (i : ℕ) (s : GroupState) → Balances s.semaphores → All (λ (t : GroupState). Q t.semaphores) (map (λ x. x.state) (run i es s))
-all-states Q f [] i s h = All-nil (λ (t : GroupState). Q t.semaphores)
-all-states Q f (e ∷ es) i s h = let next = balance-apply i e s h in
-    All-cons (λ (t : GroupState). Q t.semaphores) (apply i e s).state (map (λ x. x.state) (run (i + 1) es (apply i e s).state)) (f (apply i e s).state.semaphores next) (all-states Q f es (i + 1) (apply i e s).state next)
+all-states : (Q : Semaphores → Type 0) → ((s : Semaphores) → Balances s → Q s) → (es : List Entry) → (moment : ℕ) → Q (state_before es moment).semaphores
+all-states Q f es moment = f (state_before es moment).semaphores (always (λ (s : GroupState). Balances s.semaphores) balance-apply 1 es empty at-first moment)
 
 pub always-balanced : (es : List Entry) → Always (λ s. IsBalanced s.semaphores) es
-always-balanced es = all-states IsBalanced (λ s h. h.1) es 1 empty at-first
+always-balanced es = all-states IsBalanced (λ s h. h.1) es
 
 pub always-stand : (es : List Entry) → Always (λ s. HoldingsStand s.semaphores) es
-always-stand es = all-states HoldingsStand holdings-stand es 1 empty at-first
+always-stand es = all-states HoldingsStand holdings-stand es

@@ -1,6 +1,6 @@
 -- Fences rise, and a lock has one owner under each fence.
-use Rattle.std.proofs.Common.{◌≡◌, ℕ, zero, suc, ◌+◌, ◌-◌, ◌<◌, ◌≤◌, ◌⊎◌, inl, inr, Bool, true, false, not, List, [], ◌∷◌, map, Some, refl, ap, sym, ◌∙◌, subst, arith, if◌then◌else◌}
-use Rattle.std.specs.Prelude.{◌==◌, nat_lt, slice_get}
+use Rattle.std.proofs.Common.{◌≡◌, ℕ, zero, suc, ◌+◌, ◌-◌, ◌<◌, ◌≤◌, ◌⊎◌, inl, inr, Bool, true, false, not, List, [], ◌∷◌, Some, refl, ap, sym, ◌∙◌, subst, arith, if◌then◌else◌}
+use Rattle.std.specs.Prelude.{◌==◌, nat_lt}
 use Rattle.std.specs.BTreeMap.{is_at}
 use Rattle.std.proofs.lemmas.Cmp.{nat_list_cmp_total}
 use Rattle.std.specs.List.Sorted.{IsStrictlySortedBy}
@@ -19,10 +19,11 @@ use Rattle.cp_group_state.specs.Sessions.{unchanged_since}
 use Rattle.cp_group_state.specs.Locks.{LockRow, Acquired, Release, free_lock, held_once, or_free, lock_at, is_free, is_held_by, is_held_among, most_holds, acquired, released_by, freed, freed_all}
 use Rattle.cp_group_state.specs.Latches.{latch_step}
 use Rattle.cp_group_state.specs.GroupState.{GroupState, empty}
-use Rattle.cp_group_state.specs.Apply.{Applied, run, apply, apply_call, is_elsewhere, supersede, outcome}
+use Rattle.cp_group_state.specs.Apply.{Applied, apply, apply_call, is_elsewhere, supersede, outcome}
 use Rattle.cp_group_state.specs.Protected.{session_in}
 use Rattle.cp_group_state.specs.Destroying.{add_gone, drop_rows}
-use Rattle.cp_group_state.specs.Fences.{IsSameHold, FencesRise}
+use Rattle.cp_group_state.specs.Fences.{IsSameHold, IsHeldThen, IsOneHold, HoldsRise, FencesRise}
+use Rattle.cp_group_state.specs.History.{state_after}
 use Rattle.cp_group_state.proofs.Keyed.{equal_is, find-put_same, find-put_other, find-without_other, name_key}
 use Rattle.cp_group_state.proofs.Rising.{Rising, rising-put, rising-without, find-without_same}
 use Rattle.cp_group_state.proofs.Walk.{cases, either, Closed, walk_supersede, walk_outcome, walk_on_latch, walk_close, walk_time_out, keep_session}
@@ -153,12 +154,16 @@ locks-apply i (entry.Destroyed group) s = locks-same i s.locks
 locks-apply i (entry.Moved group at members) s = locks-same i s.locks
 locks-apply i (entry.Left member) s = locks-same i s.locks
 
+-- the locks once so many of these entries were applied
+abbrev pub locks_from : ℕ → List Entry → GroupState → ℕ → List (List ℕ × LockRow)
+locks_from i es s moment = (state_after moment i es s).locks
+
 -- later moments: a lock that is held is held as at first, or under a fence from here on
 abbrev pub Follows : ℕ → List (List ℕ × LockRow) → List (List ℕ × LockRow) → Type 0
 Follows i rows next = (name : List ℕ) → is_free (lock_at next name) ≡ false → ((is_free (lock_at rows name) ≡ false) × IsSameHold (lock_at rows name) (lock_at next name)) ⊎ (i ≤ (lock_at next name).fence)
 
-states-from : ℕ → List Entry → GroupState → List GroupState
-states-from i es s = map (λ x. x.state) (run i es s)
+follows-same : (i : ℕ) (rows : List (List ℕ × LockRow)) → Follows i rows rows
+follows-same i rows name held = inl (held, (refl, refl))
 
 follows-on : (i : ℕ) (a b c : List (List ℕ × LockRow)) → ((name : List ℕ) → HoldsOn i (lock_at a name) (lock_at b name)) → Follows (i + 1) b c → Follows i a c
 follows-on i a b c on f name held = by (f name held)
@@ -172,25 +177,75 @@ follows-on i a b c on f name held = by (f name held)
         at (inr (inl y)) = let e : (lock_at c name).fence ≡ i = x.1.1 ∙ y in inr (omega arith)
         at (inr (inr y)) = inl (y.0, (x.1.0 ∙ y.1.0, x.1.1 ∙ y.1.1))
 
-no-state : (k : ℕ) (t : GroupState) → slice_get [] k ≡ Some t → ⊥
-no-state k t e = cc
+follows : (i : ℕ) (es : List Entry) (s : GroupState) → Rising name_cmp s.locks → (k : ℕ) → Follows i s.locks (state_after k i es s).locks
+follows i es s h zero = follows-same i s.locks
+follows i [] s h (suc k) = follows-same i s.locks
+follows i (x ∷ es) s h (suc k) = let first = locks-apply i x s h in
+    follows-on i s.locks (apply i x s).state.locks (state_after k (i + 1) es (apply i x s).state).locks first.1 (follows (i + 1) es (apply i x s).state first.0 k)
 
-same-state : (s t : GroupState) → Some s ≡ Some t → s ≡ t
-same-state s t e = cc
+-- one hold that lasts from the first moment on
+hold-none : (locks : ℕ → List (List ℕ × LockRow)) (name : List ℕ) → IsHeldThen locks name 0 → IsOneHold locks name 0 0
+hold-none locks name held moment l m = let e : moment ≡ 0 = omega (arith, m) in subst (λ n. IsHeldThen locks name n × IsSameHold (lock_at (locks 0) name) (lock_at (locks n) name)) (sym e) (held, (refl, refl))
 
-follows : (i : ℕ) (es : List Entry) (s : GroupState) → Rising name_cmp s.locks → (k : ℕ) (t : GroupState) → slice_get (states-from i es s) k ≡ Some t → Follows i s.locks t.locks
-unfolding states-from
-follows i [] s h k t e = absurd (no-state k t e)
-follows i (x ∷ es) s h zero t e = let first = locks-apply i x s h in
-    subst (λ (u : GroupState). Follows i s.locks u.locks) (same-state (apply i x s).state t e) (λ name held. by name held (first.1 name))
+hold-more : (locks : ℕ → List (List ℕ × LockRow)) (name : List ℕ) (k : ℕ) → IsHeldThen locks name 0 → IsSameHold (lock_at (locks 0) name) (lock_at (locks 1) name) → IsOneHold (λ n. locks (suc n)) name 0 k → IsOneHold locks name 0 (suc k)
+hold-more locks name k held same rest zero l m = (held, (refl, refl))
+hold-more locks name k held same rest (suc n) l m = let r = rest n (omega arith) (omega (arith, m)) in (r.0, (r.1.0 ∙ same.0, r.1.1 ∙ same.1))
+
+hold-later : (locks : ℕ → List (List ℕ × LockRow)) (name : List ℕ) (j k : ℕ) → IsOneHold (λ n. locks (suc n)) name j k → IsOneHold locks name (suc j) (suc k)
+hold-later locks name j k rest zero l m = absurd (omega (arith, l))
+hold-later locks name j k rest (suc n) l m = rest n (omega (arith, l)) (omega (arith, m))
+
+hold-still : (rows : List (List ℕ × LockRow)) (name : List ℕ) (j k : ℕ) → is_free (lock_at rows name) ≡ false → IsOneHold (λ n. rows) name j k
+hold-still rows name j k held moment l m = (held, (refl, refl))
+
+-- with no entries all moments are the first
+no-entries : (n i : ℕ) (s : GroupState) → state_after n i [] s ≡ s
+no-entries zero i s = refl
+no-entries (suc n) i s = refl
+
+hold-empty : (i : ℕ) (s : GroupState) (name : List ℕ) (j k : ℕ) → is_free (lock_at s.locks name) ≡ false → IsOneHold (locks_from i [] s) name j k
+hold-empty i s name j k held moment l m = subst (λ (t : GroupState). (is_free (lock_at t.locks name) ≡ false) × IsSameHold (lock_at (state_after j i [] s).locks name) (lock_at t.locks name)) (sym (no-entries moment i s))
+    (subst (λ (t : GroupState). (is_free (lock_at s.locks name) ≡ false) × IsSameHold (lock_at t.locks name) (lock_at s.locks name)) (sym (no-entries j i s)) (held, (refl, refl)))
+
+-- a lock that is held at first is held so until then, or it is held then under a fence from here on
+lasts : (i : ℕ) (es : List Entry) (s : GroupState) → Rising name_cmp s.locks → (k : ℕ) (name : List ℕ) → is_free (lock_at s.locks name) ≡ false → is_free (lock_at (state_after k i es s).locks name) ≡ false
+    → IsOneHold (locks_from i es s) name 0 k ⊎ (i ≤ (lock_at (state_after k i es s).locks name).fence)
+lasts i es s h zero name held then_held = inl (hold-none (locks_from i es s) name held)
+lasts i [] s h (suc k) name held then_held = inl (hold-empty i s name 0 (suc k) held)
+lasts i (x ∷ es) s h (suc k) name held then_held = by (is_free (lock_at (apply i x s).state.locks name)) refl (first.1 name) (λ kept. lasts (i + 1) es (apply i x s).state first.0 k name kept then_held)
   where
-    by : (name : List ℕ) → is_free (lock_at (apply i x s).state.locks name) ≡ false → HoldsOn i (lock_at s.locks name) (lock_at (apply i x s).state.locks name)
-        → ((is_free (lock_at s.locks name) ≡ false) × IsSameHold (lock_at s.locks name) (lock_at (apply i x s).state.locks name)) ⊎ (i ≤ (lock_at (apply i x s).state.locks name).fence)
-    by name held (inl y) = absurd (no_true (sym y ∙ held))
-    by name held (inr (inl y)) = inr (omega (arith, y))
-    by name held (inr (inr y)) = inl y
-follows i (x ∷ es) s h (suc k) t e = let first = locks-apply i x s h in
-    follows-on i s.locks (apply i x s).state.locks t.locks first.1 (follows (i + 1) es (apply i x s).state first.0 k t e)
+    first : Rising name_cmp (apply i x s).state.locks × ((name : List ℕ) → HoldsOn i (lock_at s.locks name) (lock_at (apply i x s).state.locks name))
+    first = locks-apply i x s h
+
+    -- it was free in between
+    anew : is_free (lock_at (apply i x s).state.locks name) ≡ true → i ≤ (lock_at (state_after k (i + 1) es (apply i x s).state).locks name).fence
+    anew free = at (follows (i + 1) es (apply i x s).state first.0 k name then_held) where
+      at : ((is_free (lock_at (apply i x s).state.locks name) ≡ false) × IsSameHold (lock_at (apply i x s).state.locks name) (lock_at (state_after k (i + 1) es (apply i x s).state).locks name)) ⊎ (i + 1 ≤ (lock_at (state_after k (i + 1) es (apply i x s).state).locks name).fence)
+          → i ≤ (lock_at (state_after k (i + 1) es (apply i x s).state).locks name).fence
+      at (inl y) = absurd (no_true (sym free ∙ y.0))
+      at (inr y) = omega (arith, y)
+
+    -- it was granted by the first entry
+    granted : (lock_at (apply i x s).state.locks name).fence ≡ i → i ≤ (lock_at (state_after k (i + 1) es (apply i x s).state).locks name).fence
+    granted e = at (follows (i + 1) es (apply i x s).state first.0 k name then_held) where
+      at : ((is_free (lock_at (apply i x s).state.locks name) ≡ false) × IsSameHold (lock_at (apply i x s).state.locks name) (lock_at (state_after k (i + 1) es (apply i x s).state).locks name)) ⊎ (i + 1 ≤ (lock_at (state_after k (i + 1) es (apply i x s).state).locks name).fence)
+          → i ≤ (lock_at (state_after k (i + 1) es (apply i x s).state).locks name).fence
+      at (inl y) = let f : (lock_at (state_after k (i + 1) es (apply i x s).state).locks name).fence ≡ i = y.1.1 ∙ e in omega (arith, f)
+      at (inr y) = omega (arith, y)
+
+    goes : IsSameHold (lock_at s.locks name) (lock_at (apply i x s).state.locks name)
+        → IsOneHold (locks_from (i + 1) es (apply i x s).state) name 0 k ⊎ (i + 1 ≤ (lock_at (state_after k (i + 1) es (apply i x s).state).locks name).fence)
+        → IsOneHold (locks_from i (x ∷ es) s) name 0 (suc k) ⊎ (i ≤ (lock_at (state_after k (i + 1) es (apply i x s).state).locks name).fence)
+    goes same (inl y) = inl (hold-more (locks_from i (x ∷ es) s) name k held same y)
+    goes same (inr y) = inr (omega (arith, y))
+
+    by : (b : Bool) → is_free (lock_at (apply i x s).state.locks name) ≡ b → HoldsOn i (lock_at s.locks name) (lock_at (apply i x s).state.locks name)
+        → (is_free (lock_at (apply i x s).state.locks name) ≡ false → IsOneHold (locks_from (i + 1) es (apply i x s).state) name 0 k ⊎ (i + 1 ≤ (lock_at (state_after k (i + 1) es (apply i x s).state).locks name).fence))
+        → IsOneHold (locks_from i (x ∷ es) s) name 0 (suc k) ⊎ (i ≤ (lock_at (state_after k (i + 1) es (apply i x s).state).locks name).fence)
+    by true free on rest = inr (anew free)
+    by false kept (inl y) rest = absurd (no_true (sym y ∙ kept))
+    by false kept (inr (inl y)) rest = inr (granted y)
+    by false kept (inr (inr y)) rest = goes y.1 (rest kept)
 
 -- the fences of the locks that are held lie below the index
 abbrev pub FencesBelow : ℕ → List (List ℕ × LockRow) → Type 0
@@ -204,30 +259,25 @@ below-next i a b below on name held = by (on name)
     by (inr (inl y)) = omega (arith, y)
     by (inr (inr y)) = let l = below name y.0 in let e = y.1.1 in omega arith
 
-rise-from : (i : ℕ) (es : List Entry) (s : GroupState) → Rising name_cmp s.locks → FencesBelow i s.locks → (j k : ℕ) (t u : GroupState) (name : List ℕ) → j ≤ k → slice_get (states-from i es s) j ≡ Some t → slice_get (states-from i es s) k ≡ Some u
-    → is_free (lock_at t.locks name) ≡ false → is_free (lock_at u.locks name) ≡ false → IsSameHold (lock_at t.locks name) (lock_at u.locks name) ⊎ ((lock_at t.locks name).fence < (lock_at u.locks name).fence)
-unfolding states-from
-rise-from i [] s h below j k t u name l et eu ft fu = absurd (no-state j t et)
-rise-from i (x ∷ es) s h below zero zero t u name l et eu ft fu = let same : t ≡ u = same-state t u (sym et ∙ eu) in
-    inl (subst (λ (v : GroupState). IsSameHold (lock_at t.locks name) (lock_at v.locks name)) same (refl, refl))
-rise-from i (x ∷ es) s h below zero (suc k) t u name l et eu ft fu = let first = locks-apply i x s h in
-    let t_is : (apply i x s).state ≡ t = same-state (apply i x s).state t et in
-    let f : Follows (i + 1) (apply i x s).state.locks u.locks = follows (i + 1) es (apply i x s).state first.0 k u eu in
-    let b : FencesBelow (i + 1) (apply i x s).state.locks = below-next i s.locks (apply i x s).state.locks below first.1 in
-    let ft' : is_free (lock_at (apply i x s).state.locks name) ≡ false = subst (λ (v : GroupState). is_free (lock_at v.locks name) ≡ false) (sym t_is) ft in
-    subst (λ (v : GroupState). IsSameHold (lock_at v.locks name) (lock_at u.locks name) ⊎ ((lock_at v.locks name).fence < (lock_at u.locks name).fence)) t_is (by (b name ft') (f name fu))
+rise-from : (i : ℕ) (es : List Entry) (s : GroupState) → Rising name_cmp s.locks → FencesBelow i s.locks → HoldsRise (locks_from i es s)
+rise-from i es s h below zero k name l held then_held = by (lasts i es s h k name held then_held) (below name held) where
+  by : IsOneHold (locks_from i es s) name 0 k ⊎ (i ≤ (lock_at (state_after k i es s).locks name).fence) → (lock_at s.locks name).fence < i
+      → IsOneHold (locks_from i es s) name 0 k ⊎ ((lock_at s.locks name).fence < (lock_at (state_after k i es s).locks name).fence)
+  by (inl y) f = inl y
+  by (inr y) f = inr (omega (arith, y, f))
+rise-from i es s h below (suc j) zero name l held then_held = absurd (omega (arith, l))
+rise-from i [] s h below (suc j) (suc k) name l held then_held = inl (hold-empty i s name (suc j) (suc k) held)
+rise-from i (x ∷ es) s h below (suc j) (suc k) name l held then_held = let first = locks-apply i x s h in
+    by (rise-from (i + 1) es (apply i x s).state first.0 (below-next i s.locks (apply i x s).state.locks below first.1) j k name (omega (arith, l)) held then_held)
   where
-    by : (lock_at (apply i x s).state.locks name).fence < i + 1 → ((is_free (lock_at (apply i x s).state.locks name) ≡ false) × IsSameHold (lock_at (apply i x s).state.locks name) (lock_at u.locks name)) ⊎ (i + 1 ≤ (lock_at u.locks name).fence)
-        → IsSameHold (lock_at (apply i x s).state.locks name) (lock_at u.locks name) ⊎ ((lock_at (apply i x s).state.locks name).fence < (lock_at u.locks name).fence)
-    by l (inl y) = inl y.1
-    by l (inr y) = inr (omega arith)
-rise-from i (x ∷ es) s h below (suc j) zero t u name l et eu ft fu = absurd (omega arith)
-rise-from i (x ∷ es) s h below (suc j) (suc k) t u name l et eu ft fu = let first = locks-apply i x s h in
-    rise-from (i + 1) es (apply i x s).state first.0 (below-next i s.locks (apply i x s).state.locks below first.1) j k t u name (omega arith) et eu ft fu
+    by : IsOneHold (locks_from (i + 1) es (apply i x s).state) name j k ⊎ ((lock_at (state_after j (i + 1) es (apply i x s).state).locks name).fence < (lock_at (state_after k (i + 1) es (apply i x s).state).locks name).fence)
+        → IsOneHold (locks_from i (x ∷ es) s) name (suc j) (suc k) ⊎ ((lock_at (state_after j (i + 1) es (apply i x s).state).locks name).fence < (lock_at (state_after k (i + 1) es (apply i x s).state).locks name).fence)
+    by (inl y) = inl (hold-later (locks_from i (x ∷ es) s) name j k y)
+    by (inr y) = inr y
 
 empty-below : FencesBelow 1 empty.locks
 empty-below name held = absurd (no_true held)
 
 pub fences-rise : (es : List Entry) → FencesRise es
-unfolding states-from IsStrictlySortedBy
+unfolding IsStrictlySortedBy
 fences-rise es = rise-from 1 es empty tt empty-below

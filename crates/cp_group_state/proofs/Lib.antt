@@ -1,4 +1,6 @@
 pub mod Examples
+pub mod Lists
+pub mod Moments
 pub mod Keyed
 pub mod Walk
 pub mod Grows
@@ -21,3 +23,4 @@ pub mod Asked
 pub mod Answered
 pub mod Single
 pub mod Balance
+pub mod Holds

@@ -1,6 +1,6 @@
 -- Every list stays in rising order of its keys.
-use Rattle.std.proofs.Common.{◌≡◌, ℕ, ◌+◌, ◌-◌, ◌^◌, true, not, ◌&&◌, List, [], ◌∷◌, map, Some, None, Option, refl, ap, sym, subst, if◌then◌else◌}
-use Rattle.std.specs.Prelude.{◌==◌, nat_lt, All, length, ℤ, pos, neg_ℤ, int_lt, ◌-ℤ◌, ◌+ℤ◌, bytes_eq}
+use Rattle.std.proofs.Common.{◌≡◌, ℕ, zero, suc, ◌+◌, ◌-◌, ◌^◌, true, not, ◌&&◌, List, [], ◌∷◌, map, Some, None, Option, refl, ap, sym, subst, if◌then◌else◌}
+use Rattle.std.specs.Prelude.{◌==◌, nat_lt, length, ℤ, pos, neg_ℤ, int_lt, ◌-ℤ◌, ◌+ℤ◌, bytes_eq}
 use Rattle.std.specs.Ordering.{nat_cmp}
 use Rattle.std.specs.List.Sorted.{IsStrictlySortedBy}
 use Rattle.std.specs.Map.{keys_of}
@@ -37,8 +37,7 @@ use Rattle.cp_group_state.specs.Rows.{pair_cmp}
 use Rattle.cp_object_ops.specs.declared.map_op.MapOp.{MapOp}
 use Rattle.cp_group_state.specs.Maps.{Pairs, Effect, Stays, Sets, Goes, MapStep, key_of, map_effect, map_answer, with_effect, map_step}
 use Rattle.cp_group_state.specs.Invariants.{IsRising, IsOrdered, Always}
-use Rattle.cp_group_state.specs.Apply.{run}
-use Rattle.std.proofs.lemmas.List.Elements.{All-nil, All-cons}
+use Rattle.cp_group_state.specs.History.{state_after}
 use Rattle.cp_group_state.proofs.Keyed.{IsKey, number_key, name_key, object_key, holder_key, pair_key, pair_same, then_equal}
 use Rattle.cp_group_state.proofs.Rising.{rising-put, rising-without, rising-filter}
 use Rattle.cp_group_state.proofs.Fences.{locks-acquired, locks-released, locks-freed}
@@ -247,9 +246,10 @@ unfolding IsStrictlySortedBy
 order-empty = record { sessions = tt; locks = tt; semaphores = tt; holdings = tt; latches = tt; longs = tt; refs = tt; maps = tt; gone = tt; memory = tt }
 
 -- what each entry keeps holds of every state
-pub always : (P : GroupState → Type 0) → ((i : ℕ) (e : Entry) (s : GroupState) → P s → P (apply i e s).state) → (i : ℕ) (es : List Entry) (s : GroupState) → P s → All P (map (λ x. x.state) (run i es s))
-always P keeps i [] s h = All-nil P
-always P keeps i (e ∷ es) s h = All-cons P (apply i e s).state (map (λ x. x.state) (run (i + 1) es (apply i e s).state)) (keeps i e s h) (always P keeps (i + 1) es (apply i e s).state (keeps i e s h))
+pub always : (P : GroupState → Type 0) → ((i : ℕ) (e : Entry) (s : GroupState) → P s → P (apply i e s).state) → (i : ℕ) (es : List Entry) (s : GroupState) → P s → (moment : ℕ) → P (state_after moment i es s)
+always P keeps i es s h zero = h
+always P keeps i [] s h (suc n) = h
+always P keeps i (e ∷ es) s h (suc n) = always P keeps (i + 1) es (apply i e s).state (keeps i e s h) n
 
 pub always-ordered : (es : List Entry) → Always IsOrdered es
 always-ordered es = always IsOrdered order-apply 1 es empty order-empty

@@ -56,14 +56,17 @@ use Rattle.cp_group_state.proofs.Rising.{Rising}
 use Rattle.cp_group_state.proofs.Walk.{cases, either}
 use Rattle.cp_group_state.proofs.Stand.{IsGiven, NoFence, EndedStand, quiet-stand, quiet-answers, quiet-serve_from, stand-hand_over, stand-close}
 
-module _ (Asked : List ℕ → ℕ → Type 0) where
-  -- a fence is that of a lock that the thread holds in a session, where both are what was asked for
+module _ (Asked : List ℕ → ℕ → Type 0) (Names : List ℕ → Type 0) where
+  -- a fence is that of a lock that the thread holds in a session, where both are what was asked for; an owner is that of a
+  -- lock which is named
   abbrev pub IsOwnHeld : List (List ℕ × LockRow) → ThreadNo → Answer → Type 0
   IsOwnHeld locks thread (answer.Fence f) = (name : List ℕ) × (session : ℕ) × Asked name session × (is_free (lock_at locks name) ≡ false) × ((lock_at locks name).holder ≡ record { session = session; thread = thread }) × ((lock_at locks name).fence ≡ f)
+  IsOwnHeld locks thread (answer.Held session owner holds f) = (name : List ℕ) × Names name × (is_free (lock_at locks name) ≡ false) × ((lock_at locks name).holder ≡ record { session = session; thread = owner }) × ((lock_at locks name).holds ≡ holds) × ((lock_at locks name).fence ≡ f)
   IsOwnHeld locks thread a = Unit {0}
 
   no-own : (locks : List (List ℕ × LockRow)) (thread : ThreadNo) (a : Answer) → NoFence a → IsOwnHeld locks thread a
   no-own locks thread (answer.Fence f) h = absurd h
+  no-own locks thread (answer.Held session owner holds f) h = absurd h
   no-own locks thread a h = tt
 
   abbrev pub OwnStands : Invocation → List (List ℕ × LockRow) → Reply → Type 0
@@ -169,13 +172,14 @@ module _ (Asked : List ℕ → ℕ → Type 0) where
   released-stands i call name Kept s = plain call answer.Ok s tt
   released-stands i call name NotOwner s = plain call answer.NotOwner s tt
 
-  owner-plain : (row : LockRow) → NoFence (owner_answer row)
-  owner-plain row = either NoFence (is_free row) _ _ tt tt
+  owner-stands : (call : Invocation) (name : List ℕ) (s : GroupState) → Names name → OutcomeStands call (answered (owner_answer (lock_at s.locks name)) s)
+  owner-stands call name s named = cases (λ (a : Answer). OutcomeStands call (answered a s)) (is_free (lock_at s.locks name)) _ _
+      (λ e. plain call answer.Free s tt) (λ e. (none-ended s.locks, (name, named, e, refl, refl, refl)))
 
-  lock-stands : (i : ℕ) (call : Invocation) (name : List ℕ) (l : LockOp) (s : GroupState) → ((session limit : ℕ) (x : Wish) → l ≡ lock.Acquire session limit x → Asked name session) → OutcomeStands call (lock_rule i call name l s)
-  lock-stands i call name lock.Owner s asked = plain call _ s (owner-plain (lock_at s.locks name))
-  lock-stands i call name (lock.Acquire session limit wish) s asked = taken-stands call name session _ wish (acquired s.locks i name (record { session = session; thread = call.thread }) limit).taken (record s { locks = (acquired s.locks i name (record { session = session; thread = call.thread }) limit).rows }) (asked session limit wish refl) (acquired-stands i s.locks name (record { session = session; thread = call.thread }) limit)
-  lock-stands i call name (lock.Release session) s asked = released-stands i call name (released_by s.locks name (record { session = session; thread = call.thread })).released (record s { locks = (released_by s.locks name (record { session = session; thread = call.thread })).rows })
+  lock-stands : (i : ℕ) (call : Invocation) (name : List ℕ) (l : LockOp) (s : GroupState) → Names name → ((session limit : ℕ) (x : Wish) → l ≡ lock.Acquire session limit x → Asked name session) → OutcomeStands call (lock_rule i call name l s)
+  lock-stands i call name lock.Owner s named asked = owner-stands call name s named
+  lock-stands i call name (lock.Acquire session limit wish) s named asked = taken-stands call name session _ wish (acquired s.locks i name (record { session = session; thread = call.thread }) limit).taken (record s { locks = (acquired s.locks i name (record { session = session; thread = call.thread }) limit).rows }) (asked session limit wish refl) (acquired-stands i s.locks name (record { session = session; thread = call.thread }) limit)
+  lock-stands i call name (lock.Release session) s named asked = released-stands i call name (released_by s.locks name (record { session = session; thread = call.thread })).released (record s { locks = (released_by s.locks name (record { session = session; thread = call.thread })).rows })
 
   -- semaphores
   abbrev pub SemPlain : SemOutcome → Type 0
@@ -261,24 +265,28 @@ module _ (Asked : List ℕ → ℕ → Type 0) where
 abbrev pub AskedBy : Op → List ℕ → ℕ → Type 0
 AskedBy o name session = (object_of o ≡ Some (name, kind.Lock)) × (session_in o ≡ Some session)
 
+-- the lock that an operation names
+abbrev pub NamedBy : Op → List ℕ → Type 0
+NamedBy o name = object_of o ≡ Some (name, kind.Lock)
+
 same-acquire : (name : List ℕ) (l : LockOp) (session limit : ℕ) (x : Wish) → l ≡ lock.Acquire session limit x → session_in (op.Lock name l) ≡ Some session
 same-acquire name l session limit x e = rw e
 
-rule-stands : (i : ℕ) (call : Invocation) (o : Op) (s : GroupState) → Rising name_cmp s.locks → OutcomeStands (AskedBy o) call (rule i call o s)
-rule-stands i call (op.Long name l) s h = (none-ended (AskedBy (op.Long name l)) s.locks, no-own (AskedBy (op.Long name l)) s.locks call.thread (long_step s.longs name l).answer (value-plain (AskedBy (op.Long name l)) s.longs name (long_set (long_at s.longs name) l) (long_answer (long_at s.longs name) l) (long-plain (AskedBy (op.Long name l)) (long_at s.longs name) l)))
-rule-stands i call (op.Ref name l) s h = (none-ended (AskedBy (op.Ref name l)) s.locks, no-own (AskedBy (op.Ref name l)) s.locks call.thread (ref_step s.refs name l).answer (value-plain (AskedBy (op.Ref name l)) s.refs name (ref_set (ref_at s.refs name) l) (ref_answer (ref_at s.refs name) l) (ref-plain (AskedBy (op.Ref name l)) (ref_at s.refs name) l)))
+rule-stands : (i : ℕ) (call : Invocation) (o : Op) (s : GroupState) → Rising name_cmp s.locks → OutcomeStands (AskedBy o) (NamedBy o) call (rule i call o s)
+rule-stands i call (op.Long name l) s h = (none-ended (AskedBy (op.Long name l)) (NamedBy (op.Long name l)) s.locks, no-own (AskedBy (op.Long name l)) (NamedBy (op.Long name l)) s.locks call.thread (long_step s.longs name l).answer (value-plain (AskedBy (op.Long name l)) (NamedBy (op.Long name l)) s.longs name (long_set (long_at s.longs name) l) (long_answer (long_at s.longs name) l) (long-plain (AskedBy (op.Long name l)) (NamedBy (op.Long name l)) (long_at s.longs name) l)))
+rule-stands i call (op.Ref name l) s h = (none-ended (AskedBy (op.Ref name l)) (NamedBy (op.Ref name l)) s.locks, no-own (AskedBy (op.Ref name l)) (NamedBy (op.Ref name l)) s.locks call.thread (ref_step s.refs name l).answer (value-plain (AskedBy (op.Ref name l)) (NamedBy (op.Ref name l)) s.refs name (ref_set (ref_at s.refs name) l) (ref_answer (ref_at s.refs name) l) (ref-plain (AskedBy (op.Ref name l)) (NamedBy (op.Ref name l)) (ref_at s.refs name) l)))
 rule-stands i call (op.Map name l) s h = let now = find pair_cmp s.maps (name, key_of l) in
-    (none-ended (AskedBy (op.Map name l)) s.locks, no-own (AskedBy (op.Map name l)) s.locks call.thread (map_step s.maps name l).answer (effect-plain (AskedBy (op.Map name l)) s.maps (name, key_of l) (map_effect now l) (map_answer now l) (map-plain (AskedBy (op.Map name l)) now l)))
-rule-stands i call (op.Lock name l) s h = lock-stands (AskedBy (op.Lock name l)) i call name l s (λ session limit x e. (refl, same-acquire name l session limit x e))
-rule-stands i call (op.Sem name l) s h = sem-stands (AskedBy (op.Sem name l)) call (name, kind.Sem) l s
-rule-stands i call (op.Jsem name l) s h = sem-stands (AskedBy (op.Jsem name l)) call (name, kind.Jsem) l s
-rule-stands i call (op.Latch name l) s h = on_latch-stands (AskedBy (op.Latch name l)) call name l (latch_step s.latches name call l).outcome (record s { latches = (latch_step s.latches name call l).after }) (latch-plain (AskedBy (op.Latch name l)) s.latches name call l)
-rule-stands i call (op.Session l) s h = session-stands (AskedBy (op.Session l)) i call l s h
-rule-stands i call (op.Destroy which name) s h = either (OutcomeStands (AskedBy (op.Destroy which name)) call) (has_room object_cmp most s.gone (name, which)) _ _
-    (quiet-stand _ _ (quiet-answers (λ w. answer.ObjectDestroyed) (λ w. tt) _), tt) (plain (AskedBy (op.Destroy which name)) call (answer.TableFull most) s tt)
-rule-stands i call (op.Group o) s h = plain (AskedBy (op.Group o)) call answer.Ok s tt
-rule-stands i call (op.Member o) s h = plain (AskedBy (op.Member o)) call answer.Ok s tt
-rule-stands i call (op.Change o) s h = plain (AskedBy (op.Change o)) call answer.Ok s tt
+    (none-ended (AskedBy (op.Map name l)) (NamedBy (op.Map name l)) s.locks, no-own (AskedBy (op.Map name l)) (NamedBy (op.Map name l)) s.locks call.thread (map_step s.maps name l).answer (effect-plain (AskedBy (op.Map name l)) (NamedBy (op.Map name l)) s.maps (name, key_of l) (map_effect now l) (map_answer now l) (map-plain (AskedBy (op.Map name l)) (NamedBy (op.Map name l)) now l)))
+rule-stands i call (op.Lock name l) s h = lock-stands (AskedBy (op.Lock name l)) (NamedBy (op.Lock name l)) i call name l s refl (λ session limit x e. (refl, same-acquire name l session limit x e))
+rule-stands i call (op.Sem name l) s h = sem-stands (AskedBy (op.Sem name l)) (NamedBy (op.Sem name l)) call (name, kind.Sem) l s
+rule-stands i call (op.Jsem name l) s h = sem-stands (AskedBy (op.Jsem name l)) (NamedBy (op.Jsem name l)) call (name, kind.Jsem) l s
+rule-stands i call (op.Latch name l) s h = on_latch-stands (AskedBy (op.Latch name l)) (NamedBy (op.Latch name l)) call name l (latch_step s.latches name call l).outcome (record s { latches = (latch_step s.latches name call l).after }) (latch-plain (AskedBy (op.Latch name l)) (NamedBy (op.Latch name l)) s.latches name call l)
+rule-stands i call (op.Session l) s h = session-stands (AskedBy (op.Session l)) (NamedBy (op.Session l)) i call l s h
+rule-stands i call (op.Destroy which name) s h = either (OutcomeStands (AskedBy (op.Destroy which name)) (NamedBy (op.Destroy which name)) call) (has_room object_cmp most s.gone (name, which)) _ _
+    (quiet-stand _ _ (quiet-answers (λ w. answer.ObjectDestroyed) (λ w. tt) _), tt) (plain (AskedBy (op.Destroy which name)) (NamedBy (op.Destroy which name)) call (answer.TableFull most) s tt)
+rule-stands i call (op.Group o) s h = plain (AskedBy (op.Group o)) (NamedBy (op.Group o)) call answer.Ok s tt
+rule-stands i call (op.Member o) s h = plain (AskedBy (op.Member o)) (NamedBy (op.Member o)) call answer.Ok s tt
+rule-stands i call (op.Change o) s h = plain (AskedBy (op.Change o)) (NamedBy (op.Change o)) call answer.Ok s tt
 
-pub outcome-stands : (i : ℕ) (call : Invocation) (o : Op) (s : GroupState) → Rising name_cmp s.locks → OutcomeStands (AskedBy o) call (outcome i call o s)
-outcome-stands i call o s h = either (OutcomeStands (AskedBy o) call) (names_gone s (object_of o)) _ _ (plain (AskedBy o) call answer.ObjectDestroyed s tt) (rule-stands i call o s h)
+pub outcome-stands : (i : ℕ) (call : Invocation) (o : Op) (s : GroupState) → Rising name_cmp s.locks → OutcomeStands (AskedBy o) (NamedBy o) call (outcome i call o s)
+outcome-stands i call o s h = either (OutcomeStands (AskedBy o) (NamedBy o) call) (names_gone s (object_of o)) _ _ (plain (AskedBy o) (NamedBy o) call answer.ObjectDestroyed s tt) (rule-stands i call o s h)

@@ -30,18 +30,22 @@ use Rattle.cp_group_state.proofs.Walk.{cases}
 -- a fence that a waiter gets is that of the lock on which it waits, held by its thread in its session
 abbrev pub IsGiven : List (List ℕ × LockRow) → Waiter → Answer → Type 0
 IsGiven locks w (answer.Fence f) = (name : List ℕ) × (waits_on kind.Lock name w ≡ true) × (is_free (lock_at locks name) ≡ false) × ((lock_at locks name).holder ≡ record { session = w.session; thread = w.call.thread }) × ((lock_at locks name).fence ≡ f)
+IsGiven locks w (answer.Held session thread holds f) = ⊥
 IsGiven locks w a = Unit {0}
 
 abbrev pub NoFence : Answer → Type 0
 NoFence (answer.Fence f) = ⊥
+NoFence (answer.Held session thread holds f) = ⊥
 NoFence a = Unit {0}
 
 pub no-given : (locks : List (List ℕ × LockRow)) (w : Waiter) (a : Answer) → NoFence a → IsGiven locks w a
 no-given locks w (answer.Fence f) h = absurd h
+no-given locks w (answer.Held session thread holds f) h = absurd h
 no-given locks w a h = tt
 
 pub no-held : (all : List Entry) (locks : List (List ℕ × LockRow)) (c : Invocation) (a : Answer) → NoFence a → IsHeldUnder all locks c a
 no-held all locks c (answer.Fence f) h = absurd h
+no-held all locks c (answer.Held session thread holds f) h = absurd h
 no-held all locks c a h = tt
 
 abbrev pub IsQuietEnd : List Ended → Type 0

@@ -2,12 +2,11 @@
 use Rattle.std.specs.Prelude.{◌<◌, is_some}
 use Rattle.cp_op_values.specs.declared.kind.Kind.TheVariants as kind
 use Rattle.std.specs.Prelude.{List, [], ◌∷◌, All, false}
-use Rattle.cp_group_state.specs.Fences.{states}
+use Rattle.cp_group_state.specs.History.{History, state_before}
 use Rattle.std.specs.declared.cmp.Ordering.{Ordering}
 use Rattle.std.specs.Ordering.{nat_cmp}
 use Rattle.std.specs.Map.{keys_of}
 use Rattle.std.specs.List.Sorted.{IsStrictlySortedBy}
-use Rattle.cp_ops.specs.declared.entry.Entry.{Entry}
 use Rattle.cp_group_state.specs.Rows.{Named, Object, find, name_cmp, object_cmp, holding_cmp, holder_cmp, pair_cmp}
 use Rattle.std.specs.Prelude.{true, ◌≡◌, ℕ}
 use Rattle.std.specs.Map.{values_of}
@@ -37,8 +36,8 @@ pub record IsOrdered (s : GroupState) : Type 0 where
   pub memory : IsRising holder_cmp s.memory
 
 -- every state of a history
-abbrev pub Always : (GroupState → Type 0) → List Entry → Type 0
-Always P es = All P (states es)
+abbrev pub Always : (GroupState → Type 0) → History → Type 0
+Always P history = (moment : ℕ) → P (state_before history moment)
 
 -- without holds a lock row is the free one
 abbrev pub IsHeldOrFree : LockRow → Type 0

@@ -3,6 +3,7 @@
 #![tactic(auto)]
 
 ghost use Rattle.cp_group_state.specs.Laws.{CallsActAtMostOnce, FencesAlwaysRise, AnsweredFencesStand, ListsStayOrdered};
+ghost use Rattle.cp_group_state.specs.Laws.{EachLockHasOneOwner, FullOrderIsOrder, RunsGoByStates};
 ghost use Rattle.cp_group_state.specs.Laws.{LocksAreHeldOrFree, ClientsHaveOneSession, CallsWaitOnce, PermitsStayBalanced, HoldingsAreOfSemaphores};
 
 mod rows;
@@ -14,7 +15,18 @@ pub fn calls_act_at_most_once()
     ensures { CallsActAtMostOnce }
 {}
 
-/// Of two moments at which a lock is held, either one owner holds it under one fence, or the later fence is greater.
+/// What is orderly in full is as orderly as the laws ask for.
+pub fn full_order_is_order()
+    ensures { FullOrderIsOrder }
+{}
+
+/// What the run of a history has at a place is what the entry there does in the state that it meets.
+pub fn runs_go_by_states()
+    ensures { RunsGoByStates }
+{}
+
+/// Of two moments at which a lock is held, either one hold lasts from the one to the other, or the later fence is greater:
+/// so also where one thread gives a lock back and gets it again.
 pub fn fences_rise()
     ensures { FencesAlwaysRise }
 {}
@@ -25,9 +37,15 @@ pub fn lists_stay_ordered()
 {}
 
 /// In every orderly history a fence that is answered is that of the lock which the call asks for, and which its thread
-/// holds after the entry, in the session that the call names; or it was told to the call before.
+/// holds after the entry, in the session that the call names; who asks for the owner of a lock is told the hold that
+/// stands then; or the answer was given to the call before.
 pub fn answered_fences_stand()
     ensures { AnsweredFencesStand }
+{}
+
+/// A lock has one owner at most.
+pub fn each_lock_has_one_owner()
+    ensures { EachLockHasOneOwner }
 {}
 
 /// Without holds every number in a lock's row is 0.

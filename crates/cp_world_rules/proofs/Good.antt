@@ -21,8 +21,7 @@ use Rattle.cp_group_state.specs.declared.rows.Waiter.{Waiter}
 use Rattle.cp_group_state.specs.Sessions.{is_open_for}
 use Rattle.cp_group_state.specs.GroupState.{GroupState, empty}
 use Rattle.cp_group_state.specs.Apply.{Applied, apply, run}
-use Rattle.cp_world_rules.specs.Orders.{sessions_in, sessions_in_call, sessions_in_op}
-use Rattle.cp_group_state.specs.History.{IsBelow, IsOrderlyAt, IsOrderlyFrom, IsReached}
+use Rattle.cp_group_state.specs.History.{IsBelow, IsOrderlyAt, IsOrderlyFrom, IsReached, sessions_in, sessions_in_call, sessions_in_op}
 use Rattle.cp_group_state.specs.Protected.{down_in, session_in}
 use Rattle.cp_group_state.specs.Invariants.{IsOrdered}
 use Rattle.cp_group_state.proofs.Ordered.{order-apply}

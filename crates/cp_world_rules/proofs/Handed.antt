@@ -265,3 +265,18 @@ module _ (plan : Plan) where
 
   pub all-gone : (events : List Event) → Gone [] (world_after plan new_world events)
   all-gone events = run-gone 0 events new_world (rests plan []) (none-sound plan) (record { state = refl; gone = λ place c step x at_c. absurd (none_some at_c) })
+
+-- an answer of the history, with the step that gave it
+pub given-back : (i : ℕ) (xs : List Applied) (g : Given) → Contains (given_from i xs) g → (q : ℕ) × (step : Applied) × (slice_get xs q ≡ Some step) × (g.index ≡ i + q) × Contains step.answers (g.call, g.answer)
+given-back i [] g h = absurd (no-element g h)
+given-back i (x ∷ xs) g h = by (Contains-append_cases (map (λ (b : Invocation × Answer). record { index = i; call = b.0; answer = b.1 }) x.answers) (given_from (i + 1) xs) g h) (given-back (i + 1) xs g) where
+  by : Contains (map (λ (b : Invocation × Answer). record { index = i; call = b.0; answer = b.1 }) x.answers) g ⊎ Contains (given_from (i + 1) xs) g → (Contains (given_from (i + 1) xs) g → (q : ℕ) × (step : Applied) × (slice_get xs q ≡ Some step) × (g.index ≡ i + 1 + q) × Contains step.answers (g.call, g.answer))
+      → (q : ℕ) × (step : Applied) × (slice_get (x ∷ xs) q ≡ Some step) × (g.index ≡ i + q) × Contains step.answers (g.call, g.answer)
+  by (inl k) rest = let b = mapped (λ (b : Invocation × Answer). record { index = i; call = b.0; answer = b.1 }) x.answers g k in
+      (0, x, refl, ap (λ (z : Given). z.index) b.2 ∙ plus i, subst (λ (z : Given). Contains x.answers (z.call, z.answer)) (sym b.2) b.1)
+    where
+      plus : (n : ℕ) → n ≡ n + 0
+      plus n = omega arith
+  by (inr k) rest = let r = rest k in (suc r.0, r.1, r.2, r.3 ∙ add i r.0, r.4) where
+    add : (n m : ℕ) → n + 1 + m ≡ n + suc m
+    add n m = omega arith

@@ -23,7 +23,6 @@ pub mod Served
 pub mod Told
 pub mod Goes
 pub mod Held
-pub mod Orders
 pub mod Judged
 pub mod Handed
 pub mod Kept

@@ -27,14 +27,12 @@ use Rattle.cp_events.specs.declared.event.Event.TheVariants as event
 use Rattle.cp_events.specs.declared.schedule.Line.{Line}
 use Rattle.cp_events.specs.declared.schedule.Line.TheVariants as line
 use Rattle.cp_group_state.specs.Sessions.{is_open_for}
-use Rattle.cp_world_rules.specs.Orders.{state_before}
-use Rattle.cp_group_state.specs.History.{Given}
+use Rattle.cp_group_state.specs.History.{Given, IsFullyOrderly, state_before}
 use Rattle.cp_group_causes.proofs.Lists.{at-head, get-in, no-element, one-is, one-only}
 use Rattle.cp_client_rules.specs.Asking.{default_group, wish_of}
 use Rattle.cp_client_rules.specs.Calls.{patience}
 use Rattle.cp_world_rules.specs.Rows.{Called, Committed, End, Opening, Request, Returned, entries_of}
 use Rattle.cp_world_rules.specs.Execution.{Execution, history}
-use Rattle.cp_world_rules.specs.Orders.{IsFullyOrderly}
 use Rattle.cp_world_rules.specs.Requests.{AsksItselfOnce, CallsStand, EndsOnce, IsBeat, IsCallOf, IsForItself, IsForNeed, IsRequestOfCall, MayAsk, NumbersRise, Requested, ReturnsOnce}
 use Rattle.cp_world_rules.specs.Entries.{EntriesAreAsked, EventsRise, HistoriesStand, IsOfRequest, IsOwnEntry, LengthsAreTrue, NamesOwnSessions, RowsAreInOrder}
 use Rattle.cp_world_rules.specs.Answers.{AllAnswered, GoesOn, IsAnswered, IsOfEndedGroup, lets_go_on}

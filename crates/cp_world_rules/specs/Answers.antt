@@ -8,7 +8,7 @@ use Rattle.cp_ops.specs.declared.op.Op.{Op}
 use Rattle.cp_ops.specs.declared.op.Op.TheVariants as op
 use Rattle.cp_ops.specs.declared.session_op.SessionOp.TheVariants as session
 use Rattle.cp_events.specs.declared.plan.Plan.{Plan}
-use Rattle.cp_world_rules.specs.Orders.{IsGivenAt}
+use Rattle.cp_group_state.specs.History.{IsGivenAt}
 use Rattle.cp_group_causes.specs.Causes.{HasCause}
 use Rattle.cp_world_rules.specs.Rows.{Called, Committed, End, Request, entries_of}
 use Rattle.cp_world_rules.specs.Execution.{Execution, history}

@@ -6,8 +6,8 @@ use Rattle.cp_ops.specs.declared.entry.Entry.{Entry}
 use Rattle.cp_ops.specs.declared.entry.Entry.TheVariants as entry
 use Rattle.cp_ops.specs.declared.op.Op.{Op}
 use Rattle.cp_events.specs.declared.plan.Plan.{Plan}
-use Rattle.cp_group_state.specs.History.{History}
-use Rattle.cp_world_rules.specs.Orders.{HasFences, IsFullyOrderly, sessions_in}
+use Rattle.cp_group_state.specs.History.{History, IsFullyOrderly, sessions_in}
+use Rattle.cp_group_state.specs.Fences.{HasFences}
 use Rattle.cp_group_state.specs.Repeats.{ActsAtMostOnce}
 use Rattle.cp_group_causes.specs.Moments.{WasOpenFor}
 use Rattle.cp_world_rules.specs.Rows.{Committed, End, Request, entries_of}

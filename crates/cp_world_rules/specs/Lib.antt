@@ -4,7 +4,6 @@ pub mod Execution
 pub mod Sessions
 pub mod Holding
 pub mod Requests
-pub mod Orders
 pub mod Entries
 pub mod Answers
 pub mod Returns

@@ -33,7 +33,7 @@ use Rattle.cp_client_rules.specs.Asking.{default_group}
 use Rattle.cp_world_rules.specs.Rows.{Called, Committed, End, Request, entries_of}
 use Rattle.cp_world_rules.specs.World.{shows_nothing}
 use Rattle.cp_world_rules.specs.Execution.{Execution, Settled, execution_of, histories_of, history}
-use Rattle.cp_world_rules.specs.Orders.{IsFullyOrderly}
+use Rattle.cp_group_state.specs.History.{IsFullyOrderly}
 use Rattle.cp_world_rules.specs.Requests.{AsksItselfOnce, CallsStand, EndsOnce, NumbersRise, Requested, ReturnsOnce}
 use Rattle.cp_world_rules.specs.Entries.{EntriesAreAsked, EventsRise, HistoriesStand, LengthsAreTrue, NamesOwnSessions, RowsAreInOrder}
 use Rattle.cp_world_rules.specs.Answers.{AllAnswered, GoesOn}

@@ -1,4 +1,4 @@
-use Rattle.cp_group_state.proofs.Answered.{fences-stand}
+use Rattle.cp_group_state.proofs.Holds.{fences-stand}
 use Rattle.cp_group_state.proofs.answered_fences_stand.Goals as goal
 
 pub returns : goal.returns
