@@ -30,10 +30,12 @@ use Rattle.cp_events.specs.declared.user_op.UserOp.{UserOp}
 use Rattle.cp_events.specs.declared.user_op.UserOp.TheVariants as user
 use Rattle.cp_group_state.specs.GroupState.{empty}
 use Rattle.cp_group_state.specs.Apply.{Applied, run}
-use Rattle.cp_world_rules.specs.Orders.{HasFences, IsFullyOrderly, IsGivenAt, sessions_in, sessions_in_op}
-use Rattle.cp_group_state.specs.History.{Given, IsOrderly, answers_of, given_from}
+use Rattle.cp_group_state.specs.Fences.{HasFences}
+use Rattle.cp_group_state.specs.History.{Given, IsFullyOrderly, IsGivenAt, IsOrderly, answers_of, given_from, sessions_in, sessions_in_op}
 use Rattle.cp_group_state.proofs.Once.{acts-once}
-use Rattle.cp_world_rules.proofs.Orders.{all-have-causes, fully-orderly, given-back, have-fences}
+use Rattle.cp_group_state.proofs.Holds.{have-fences}
+use Rattle.cp_group_state.proofs.Moments.{fully-orderly}
+use Rattle.cp_group_causes.proofs.Caused.{all-have-causes}
 use Rattle.cp_group_state.proofs.Walk.{cases}
 use Rattle.cp_group_causes.specs.Causes.{HasCause}
 use Rattle.cp_group_causes.specs.Moments.{SessionsAreOwn}
@@ -73,7 +75,7 @@ use Rattle.cp_world_rules.proofs.Judged.{all-ignored}
 use Rattle.cp_world_rules.proofs.Goes.{AllGoneOn, all-gone-on}
 use Rattle.cp_world_rules.proofs.Held.{EndsAt, Held, HeldNone, Lost, all-held}
 use Rattle.cp_world_rules.proofs.Told.{ClosesRight, Seen}
-use Rattle.cp_world_rules.proofs.Handed.{Gone, OverBy, all-gone, ended_by, gone_on_by, returned_by}
+use Rattle.cp_world_rules.proofs.Handed.{Gone, OverBy, all-gone, ended_by, given-back, gone_on_by, returned_by}
 
 -- an answer of a step is one of the history
 given-at : (i q : ℕ) (xs : List Applied) (step : Applied) (call : Invocation) (a : Answer) → slice_get xs q ≡ Some step → Contains step.answers (call, a) → Contains (given_from i xs) (record { index = i + q; call = call; answer = a })
