@@ -51,7 +51,7 @@ use Rattle.cp_world_rules.specs.Answers.{GoesOn, IsAnswered, IsCommittedAt, lets
 use Rattle.cp_world_rules.specs.Returns.{EndedHere, IsTold, LostOwnership, PassedDeadline, answered, at_once, clock_after, late, lost, request_of}
 use Rattle.cp_world_rules.specs.Holding.{holds_before}
 use Rattle.cp_group_state.specs.Protected.{session_in}
-use Rattle.cp_world_rules.specs.Telling.{EventsTell, FollowsLines, IsOpening, IsReturnOf, StandFor, StandsOpened}
+use Rattle.cp_world_rules.specs.Telling.{EventsTell, FollowsLines, Happened, IsOpening, IsReturnOf, StandFor, StandsOpened}
 use Rattle.cp_world_rules.specs.Sessions.{TellsSession}
 use Rattle.cp_world_rules.specs.Prompt.{BeginsAtOnce, IsIgnoredSo, IsOver, IsPrompt, ended, went_on}
 use Rattle.cp_world_rules.specs.Prompt as prompt
@@ -73,6 +73,7 @@ use Rattle.cp_world_rules.proofs.Working.{itself-plain}
 use Rattle.cp_world_rules.proofs.Desked.{Sound, none-sound, runs-printed, runs-sound}
 use Rattle.cp_world_rules.proofs.Judged.{all-ignored}
 use Rattle.cp_world_rules.proofs.Goes.{AllGoneOn, all-gone-on}
+use Rattle.cp_world_rules.proofs.Happened.{AllTook, Took, all-took}
 use Rattle.cp_world_rules.proofs.Held.{EndsAt, Held, HeldNone, Lost, all-held}
 use Rattle.cp_world_rules.proofs.Told.{ClosesRight, Seen}
 use Rattle.cp_world_rules.proofs.Handed.{Gone, OverBy, all-gone, ended_by, given-back, gone_on_by, returned_by}
@@ -207,7 +208,7 @@ lines-stand [] = refl
 lines-stand (line.Settle n ∷ lines) = ([], events_of lines, refl, omega arith, λ e h. absurd (no-element e h), lines-stand lines)
 lines-stand (line.One e ∷ lines) = (events_of lines, refl, lines-stand lines)
 
-module _ (plan : Plan) (events : List Event) (w : World) (sound : Sound plan w) (seen : Seen w (openings_in w.effects)) (held : Held w) (gone_on : AllGoneOn plan w) (printed : Printed events w) (measured : Measured w) (quiet : AllQuiet w) (begun : AllBegun w) (ignoring : (number : ℕ) (shown : Effects) → slice_get w.effects number ≡ Some shown → IsIgnoredSo plan (executed w) number shown.event shown.ignored) (gone : Gone [] w) (over : w.queue ≡ []) where
+module _ (plan : Plan) (events : List Event) (w : World) (sound : Sound plan w) (seen : Seen w (openings_in w.effects)) (held : Held w) (took_all : AllTook w.effects w) (gone_on : AllGoneOn plan w) (printed : Printed events w) (measured : Measured w) (quiet : AllQuiet w) (begun : AllBegun w) (ignoring : (number : ℕ) (shown : Effects) → slice_get w.effects number ≡ Some shown → IsIgnoredSo plan (executed w) number shown.event shown.ignored) (gone : Gone [] w) (over : w.queue ≡ []) where
   abbrev good : Good plan w
   good = sound.good
 
@@ -529,6 +530,10 @@ module _ (plan : Plan) (events : List Event) (w : World) (sound : Sound plan w) 
   stands-opened client s e there tells = let x = seen.printed client s e there tells in
       (x.0, x.1, x.2, x.3 ∙ ap (λ g. record { group = g; session = s }) (sym (measured.ends e there).in_group), x.4)
 
+  -- events that took place
+  happened : (n : ℕ) → Took w.effects n → Happened (executed w) n
+  happened n t = let k = get-some w.effects t.0 t.1 in (t.0, subst (λ m. slice_get w.effects m ≡ Some t.0) (sym (printed.numbers k.0 t.0 k.1) ∙ t.2) k.1, t.3)
+
   -- an answer is returned
   returned : (q : Request) (e : End) → Contains w.requests q → Contains w.ends e → q.call ≡ e.call → lets_go_on q.op e.answer ≡ false → IsBeat (executed w) q ⊎ IsReturnOf (executed w) e
   returned q e in_q in_e same fin = by (good.all_returned q e in_q in_e same fin) where
@@ -576,7 +581,7 @@ module _ (plan : Plan) (events : List Event) (w : World) (sound : Sound plan w) 
     returns_once = returns-once;
     returns = λ r h. let there = noted r h in told r there (good.returns r there);
     follows = (events, printed.events_are, subst (StandFor lines) (sym same) (lines-stand lines));
-    events = record { numbers = λ n shown h. printed.numbers n shown h; quiet = λ shown cause there is. quiet shown there cause is; returned = returned; opened = is-opening; told = stands-opened };
+    events = record { numbers = λ n shown h. printed.numbers n shown h; quiet = λ shown cause there is. quiet shown there cause is; begins = λ q there. happened q.event (took_all.requests q there); ends = λ e there. happened e.event (took_all.ends e there); returned = returned; opened = is-opening; told = stands-opened };
     prompt = λ none. record {
       events = printed.events_are ∙ ap (λ es. event.Open ∷ es) same;
       ignored = ignoring;
@@ -590,10 +595,10 @@ module _ (plan : Plan) (events : List Event) (w : World) (sound : Sound plan w) 
 pub headline-kept : (s : Schedule) (outcomes : Outcomes) → length (events_of s.lines) ≤ 2 ^ 61 → Headline s.plan s.lines (execution_of s outcomes)
 headline-kept s outcomes short = subst (λ w. Headline s.plan s.lines (executed w)) (sym (lines-same s.plan s.lines new_world)) (from (events_of s.lines) refl) where
   from : (events : List Event) → events ≡ events_of s.lines → Headline s.plan s.lines (executed (world_after s.plan new_world (events_of s.lines)))
-  from events same = let sound = runs-sound s.plan (events_of s.lines) in let both = all-held s.plan (events_of s.lines) in let seen = both.0 in let held = both.1 in let gone_on = all-gone-on s.plan (events_of s.lines) in let printed = runs-printed s.plan (events_of s.lines) in
+  from events same = let sound = runs-sound s.plan (events_of s.lines) in let both = all-held s.plan (events_of s.lines) in let seen = both.0 in let held = both.1 in let took_all = all-took s.plan (events_of s.lines) in let gone_on = all-gone-on s.plan (events_of s.lines) in let printed = runs-printed s.plan (events_of s.lines) in
       let measured = all-kept s.plan Measured measured-kept (events_of s.lines) (measured-first new_world refl refl refl) in
       let quiet = all-quiet s.plan (events_of s.lines) in let begun = all-begun s.plan (events_of s.lines) new_world (λ c h. absurd (no-element c h)) in
       let ignoring = all-ignored s.plan (events_of s.lines) (rests s.plan []) (none-sound s.plan) printed-none printed in
       let gone = all-gone s.plan (events_of s.lines) in let over = (rests s.plan (events_of s.lines)).queue in
-      headline-of s.plan (events_of s.lines) (world_after s.plan new_world (events_of s.lines)) sound seen held gone_on printed measured quiet begun ignoring gone over
-      (is-orderly s.plan (events_of s.lines) (world_after s.plan new_world (events_of s.lines)) sound seen held gone_on printed measured quiet begun ignoring gone over (settled s.plan (events_of s.lines)).1 short) s.lines refl
+      headline-of s.plan (events_of s.lines) (world_after s.plan new_world (events_of s.lines)) sound seen held took_all gone_on printed measured quiet begun ignoring gone over
+      (is-orderly s.plan (events_of s.lines) (world_after s.plan new_world (events_of s.lines)) sound seen held took_all gone_on printed measured quiet begun ignoring gone over (settled s.plan (events_of s.lines)).1 short) s.lines refl

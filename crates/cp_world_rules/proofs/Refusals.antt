@@ -41,7 +41,7 @@ use Rattle.cp_world_rules.specs.Returns.{AllReturnsTell, HasNoSession, IsTold, L
 use Rattle.cp_world_rules.specs.Telling.{EventsTell, FollowsLines, IsReturnOf}
 use Rattle.cp_world_rules.specs.Prompt.{BeginsAtOnce, IsOver, IsPrompt, ended, went_on}
 use Rattle.cp_world_rules.specs.Prompt as prompt
-use Rattle.cp_world_rules.specs.Wrong.{AreRefused, acquire, add, answers_at_will, answers_nobody, answers_too_early, answers_twice, asks, asks_as_if_nothing_stood, asks_for_an_older_call, asks_twice, call_of, client, closes_a_session_to_come, closes_anothers_session, closes_without_asking, commits_nothing, counts_wrongly, does_nothing, enters, enters_before_it_is_asked, enters_in_the_wrong_order, enters_unasked, forgets_a_call, get, gets, gives, gives_up_early, gives_up_for_an_older_call, gives_up_without_a_deadline, goes_nowhere, hides_a_session, hides_the_loss, ignores_a_client, ignores_an_idle_thread, ignores_and_returns, increments, invocation, is_told, keeps_an_answer, lists_in_the_wrong_order, locks, loses_what_it_gave_back, makes, makes_a_call_up, never_returns, one_client, one_is, opening, opens, opens_what_nobody_asked, release, returns_at_will, returns_by_an_older_request, returns_to_nobody, returns_twice, returns_what_it_needed, shows, skips_a_line, takes_a_number_twice, tells_two_histories, thread, zero_is}
+use Rattle.cp_world_rules.specs.Wrong.{AreRefused, acquire, add, answers_at_will, answers_nobody, answers_too_early, answers_twice, asks, asks_as_if_nothing_stood, asks_for_an_older_call, asks_in_an_ignored_event, asks_twice, call_of, client, closes_a_session_to_come, closes_anothers_session, closes_without_asking, commits_nothing, counts_wrongly, does_nothing, enters, enters_before_it_is_asked, enters_in_the_wrong_order, enters_unasked, forgets_a_call, get, gets, gives, gives_up_early, gives_up_for_an_older_call, gives_up_without_a_deadline, goes_nowhere, hides_a_session, hides_the_loss, ignores_a_client, ignores_an_idle_thread, ignores_and_returns, increments, invocation, is_told, keeps_an_answer, lists_in_the_wrong_order, locks, loses_what_it_gave_back, makes, makes_a_call_up, never_returns, one_client, one_is, opening, opens, opens_what_nobody_asked, release, returns_at_will, returns_by_an_older_request, returns_to_nobody, returns_twice, returns_what_it_needed, shows, skips_a_line, takes_a_number_twice, tells_two_histories, thread, zero_is}
 
 -- a return of client 1 and its thread 1
 abbrev row : ℕ → ℕ → Answer → Returned
@@ -419,6 +419,10 @@ not_shown = record { number = 1; event = call_of gets; ignored = Some ignored.No
 not_quiet : EventsTell ignores_and_returns → ⊥
 not_quiet h = let q = h.quiet not_shown ignored.NoSuchClient (Contains-push (opening ∷ []) not_shown) refl in let e = ap (λ (rows : List (ClientNo × Return)). length rows) q.1 in absurd (omega (arith, e))
 
+asked_ignored : EventsTell asks_in_an_ignored_event → ⊥
+asked_ignored h = let x = h.begins (asks 1 0 1 get) (at-head (asks 1 0 1 get) []) in
+    none_some (sym x.2 ∙ ap (λ (z : Effects). z.ignored) (sym (same_some x.1)))
+
 not_asked : EventsTell opens_what_nobody_asked → ⊥
 not_asked h = let o = h.opened (record { event = 1; client = client 1; what = record { group = default_group; session = 1 } }) (at-head (record { event = 1; client = client 1; what = record { group = default_group; session = 1 } }) []) in
     no (sym (ap (λ (z : End). z.answer) (one-is (is_told 1 1 1 zero_is) o.0 o.1)) ∙ o.2.says)
@@ -496,6 +500,7 @@ are-refused = record {
   skipped = skipped;
   counted = counted;
   not_quiet = not_quiet;
+  asked_ignored = asked_ignored;
   not_asked = not_asked;
   hidden = hidden;
   not_returned = not_returned;

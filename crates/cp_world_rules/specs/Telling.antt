@@ -45,10 +45,16 @@ pub record IsReturnOf (x : Execution) (e : End) : Type 0 where
   pub here : told.event ≡ e.event
   pub of_request : request_of told ≡ e.call
 
+-- an event of this number took place
+abbrev pub Happened : Execution → ℕ → Type 0
+Happened x number = (shown : Effects) × (slice_get x.effects number ≡ Some shown) × (shown.ignored ≡ None)
+
 pub record EventsTell (x : Execution) : Type 0 where
   pub numbers : (number : ℕ) (shown : Effects) → slice_get x.effects number ≡ Some shown → shown.number ≡ number
-  -- an event that is ignored does nothing
+  -- an event that is ignored does nothing: it opens and returns nothing, and no request begins in it, or ends
   pub quiet : (shown : Effects) (cause : Ignored) → Contains x.effects shown → shown.ignored ≡ Some cause → (shown.opened ≡ []) × (shown.returns ≡ [])
+  pub begins : (q : Request) → Contains x.requests q → Happened x q.event
+  pub ends : (e : End) → Contains x.ends e → Happened x e.event
   -- an answer that doesn't let its call go on is returned
   pub returned : (q : Request) (e : End) → Contains x.requests q → Contains x.ends e → q.call ≡ e.call → lets_go_on q.op e.answer ≡ false → IsBeat x q ⊎ IsReturnOf x e
   -- the sessions that stand printed as opened are those that clients were told

@@ -303,6 +303,10 @@ counts_wrongly = record right { effects = opening ∷ shows 2 (call_of gets) [] 
 abbrev pub ignores_and_returns : Execution
 ignores_and_returns = record right { effects = opening ∷ record (shows 1 (call_of gets) [] (gives 1 zero_is ∷ [])) { ignored = Some ignored.NoSuchClient } ∷ [] }
 
+-- A request begins in an event that is ignored.
+abbrev pub asks_in_an_ignored_event : Execution
+asks_in_an_ignored_event = record right { effects = opening ∷ record (shows 1 (call_of gets) [] []) { ignored = Some ignored.NoSuchClient } ∷ [] }
+
 -- A session stands printed as opened that no client was told.
 abbrev pub opens_what_nobody_asked : Execution
 opens_what_nobody_asked = record right { effects = opening ∷ shows 1 (call_of gets) (opens 1) (gives 1 zero_is ∷ []) ∷ [] }
@@ -385,6 +389,7 @@ pub record AreRefused : Type 0 where
   pub skipped : FollowsLines (line.One (call_of gets) ∷ []) skips_a_line → ⊥
   pub counted : EventsTell counts_wrongly → ⊥
   pub not_quiet : EventsTell ignores_and_returns → ⊥
+  pub asked_ignored : EventsTell asks_in_an_ignored_event → ⊥
   pub not_asked : EventsTell opens_what_nobody_asked → ⊥
   pub hidden : EventsTell hides_a_session → ⊥
   pub not_returned : EventsTell never_returns → ⊥
