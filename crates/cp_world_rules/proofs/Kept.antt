@@ -73,6 +73,7 @@ use Rattle.cp_world_rules.proofs.Working.{itself-plain}
 use Rattle.cp_world_rules.proofs.Desked.{Sound, none-sound, runs-printed, runs-sound}
 use Rattle.cp_world_rules.proofs.Judged.{all-ignored}
 use Rattle.cp_world_rules.proofs.Goes.{AllGoneOn, all-gone-on}
+use Rattle.cp_world_rules.proofs.Counted.{AllCounted, all-counted}
 use Rattle.cp_world_rules.proofs.Happened.{AllTook, Took, all-took}
 use Rattle.cp_world_rules.proofs.Held.{EndsAt, Held, HeldNone, Lost, all-held}
 use Rattle.cp_world_rules.proofs.Told.{ClosesRight, Seen}
@@ -208,7 +209,7 @@ lines-stand [] = refl
 lines-stand (line.Settle n ∷ lines) = ([], events_of lines, refl, omega arith, λ e h. absurd (no-element e h), lines-stand lines)
 lines-stand (line.One e ∷ lines) = (events_of lines, refl, lines-stand lines)
 
-module _ (plan : Plan) (events : List Event) (w : World) (sound : Sound plan w) (seen : Seen w (openings_in w.effects)) (held : Held w) (took_all : AllTook w.effects w) (gone_on : AllGoneOn plan w) (printed : Printed events w) (measured : Measured w) (quiet : AllQuiet w) (begun : AllBegun w) (ignoring : (number : ℕ) (shown : Effects) → slice_get w.effects number ≡ Some shown → IsIgnoredSo plan (executed w) number shown.event shown.ignored) (gone : Gone [] w) (over : w.queue ≡ []) where
+module _ (plan : Plan) (events : List Event) (w : World) (sound : Sound plan w) (seen : Seen w (openings_in w.effects)) (held : Held w) (took_all : AllTook w.effects w) (counted : AllCounted w) (gone_on : AllGoneOn plan w) (printed : Printed events w) (measured : Measured w) (quiet : AllQuiet w) (begun : AllBegun w) (ignoring : (number : ℕ) (shown : Effects) → slice_get w.effects number ≡ Some shown → IsIgnoredSo plan (executed w) number shown.event shown.ignored) (gone : Gone [] w) (over : w.queue ≡ []) where
   abbrev good : Good plan w
   good = sound.good
 
@@ -575,6 +576,7 @@ module _ (plan : Plan) (events : List Event) (w : World) (sound : Sound plan w) 
     requests = sourced;
     itself_once = itself-once;
     numbers = good.rising;
+    rounds = counted;
     answers = λ e there. inl (answered-so orderly e there);
     ends_once = ends-once;
     goes_on = goes-on;
@@ -595,10 +597,10 @@ module _ (plan : Plan) (events : List Event) (w : World) (sound : Sound plan w) 
 pub headline-kept : (s : Schedule) (outcomes : Outcomes) → length (events_of s.lines) ≤ 2 ^ 61 → Headline s.plan s.lines (execution_of s outcomes)
 headline-kept s outcomes short = subst (λ w. Headline s.plan s.lines (executed w)) (sym (lines-same s.plan s.lines new_world)) (from (events_of s.lines) refl) where
   from : (events : List Event) → events ≡ events_of s.lines → Headline s.plan s.lines (executed (world_after s.plan new_world (events_of s.lines)))
-  from events same = let sound = runs-sound s.plan (events_of s.lines) in let both = all-held s.plan (events_of s.lines) in let seen = both.0 in let held = both.1 in let took_all = all-took s.plan (events_of s.lines) in let gone_on = all-gone-on s.plan (events_of s.lines) in let printed = runs-printed s.plan (events_of s.lines) in
+  from events same = let sound = runs-sound s.plan (events_of s.lines) in let both = all-held s.plan (events_of s.lines) in let seen = both.0 in let held = both.1 in let took_all = all-took s.plan (events_of s.lines) in let counted = all-counted s.plan (events_of s.lines) in let gone_on = all-gone-on s.plan (events_of s.lines) in let printed = runs-printed s.plan (events_of s.lines) in
       let measured = all-kept s.plan Measured measured-kept (events_of s.lines) (measured-first new_world refl refl refl) in
       let quiet = all-quiet s.plan (events_of s.lines) in let begun = all-begun s.plan (events_of s.lines) new_world (λ c h. absurd (no-element c h)) in
       let ignoring = all-ignored s.plan (events_of s.lines) (rests s.plan []) (none-sound s.plan) printed-none printed in
       let gone = all-gone s.plan (events_of s.lines) in let over = (rests s.plan (events_of s.lines)).queue in
-      headline-of s.plan (events_of s.lines) (world_after s.plan new_world (events_of s.lines)) sound seen held took_all gone_on printed measured quiet begun ignoring gone over
-      (is-orderly s.plan (events_of s.lines) (world_after s.plan new_world (events_of s.lines)) sound seen held took_all gone_on printed measured quiet begun ignoring gone over (settled s.plan (events_of s.lines)).1 short) s.lines refl
+      headline-of s.plan (events_of s.lines) (world_after s.plan new_world (events_of s.lines)) sound seen held took_all counted gone_on printed measured quiet begun ignoring gone over
+      (is-orderly s.plan (events_of s.lines) (world_after s.plan new_world (events_of s.lines)) sound seen held took_all counted gone_on printed measured quiet begun ignoring gone over (settled s.plan (events_of s.lines)).1 short) s.lines refl

@@ -23,6 +23,7 @@ pub mod Served
 pub mod Told
 pub mod Goes
 pub mod Held
+pub mod Counted
 pub mod Happened
 pub mod Judged
 pub mod Handed

@@ -1,6 +1,6 @@
 -- Each wrong execution is refused, computed.
 use Rattle.std.proofs.Common.{◌≡◌, ℕ, ◌+◌, ◌<◌, ◌≤◌, ◌⊎◌, inl, inr, Bool, true, false, List, [], ◌∷◌, ◌++◌, Some, None, refl, sym, subst, ap, ◌∙◌, arith, length, map, zero, suc, le_refl}
-use Rattle.std.specs.Prelude.{Contains, slice_get, ℤ, pos, negsuc}
+use Rattle.std.specs.Prelude.{Contains, slice_get, ℤ, pos, negsuc, unsigned_abs}
 use Rattle.std.proofs.lemmas.List.Elements.{Contains-push}
 use Rattle.cp_base.proofs.Tests.{no_false, no_true, none_some, same_some}
 use Rattle.cp_base.specs.declared.identifier.ClientId.{ClientId}
@@ -33,7 +33,7 @@ use Rattle.cp_client_rules.specs.Asking.{default_group, wish_of}
 use Rattle.cp_client_rules.specs.Calls.{patience}
 use Rattle.cp_world_rules.specs.Rows.{Called, Committed, End, Opening, Request, Returned, entries_of}
 use Rattle.cp_world_rules.specs.Execution.{Execution, history}
-use Rattle.cp_world_rules.specs.Requests.{AsksItselfOnce, CallsStand, EndsOnce, IsBeat, IsCallOf, IsForItself, IsForNeed, IsRequestOfCall, MayAsk, NumbersRise, Requested, ReturnsOnce}
+use Rattle.cp_world_rules.specs.Requests.{AsksItselfOnce, CallsStand, EndsOnce, IsBeat, IsCallOf, IsForItself, IsForNeed, IsRequestOfCall, MayAsk, NumbersRise, Requested, ReturnsOnce, RoundsAreTold}
 use Rattle.cp_world_rules.specs.Entries.{EntriesAreAsked, EventsRise, HistoriesStand, IsOfRequest, IsOwnEntry, LengthsAreTrue, NamesOwnSessions, RowsAreInOrder}
 use Rattle.cp_world_rules.specs.Answers.{AllAnswered, GoesOn, IsAnswered, IsOfEndedGroup, lets_go_on}
 use Rattle.cp_world_rules.specs.Holding.{holds_before}
@@ -41,7 +41,7 @@ use Rattle.cp_world_rules.specs.Returns.{AllReturnsTell, HasNoSession, IsTold, L
 use Rattle.cp_world_rules.specs.Telling.{EventsTell, FollowsLines, IsReturnOf}
 use Rattle.cp_world_rules.specs.Prompt.{BeginsAtOnce, IsOver, IsPrompt, ended, went_on}
 use Rattle.cp_world_rules.specs.Prompt as prompt
-use Rattle.cp_world_rules.specs.Wrong.{AreRefused, acquire, add, answers_at_will, answers_nobody, answers_too_early, answers_twice, asks, asks_as_if_nothing_stood, asks_for_an_older_call, asks_in_an_ignored_event, asks_twice, call_of, client, closes_a_session_to_come, closes_anothers_session, closes_without_asking, commits_nothing, counts_wrongly, does_nothing, enters, enters_before_it_is_asked, enters_in_the_wrong_order, enters_unasked, forgets_a_call, get, gets, gives, gives_up_early, gives_up_for_an_older_call, gives_up_without_a_deadline, goes_nowhere, hides_a_session, hides_the_loss, ignores_a_client, ignores_an_idle_thread, ignores_and_returns, increments, invocation, is_told, keeps_an_answer, lists_in_the_wrong_order, locks, loses_what_it_gave_back, makes, makes_a_call_up, never_returns, one_client, one_is, opening, opens, opens_what_nobody_asked, release, returns_at_will, returns_by_an_older_request, returns_to_nobody, returns_twice, returns_what_it_needed, shows, skips_a_line, takes_a_number_twice, tells_two_histories, thread, zero_is}
+use Rattle.cp_world_rules.specs.Wrong.{AreRefused, acquire, add, answers_at_will, answers_nobody, answers_too_early, answers_twice, asks, asks_as_if_nothing_stood, asks_for_an_older_call, asks_in_an_ignored_event, asks_twice, call_of, client, closes_a_session_to_come, closes_anothers_session, closes_without_asking, commits_nothing, counts_an_older_round, counts_wrongly, does_nothing, enters, enters_before_it_is_asked, enters_in_the_wrong_order, enters_unasked, forgets_a_call, get, gets, gives, gives_up_early, gives_up_for_an_older_call, gives_up_without_a_deadline, goes_nowhere, hides_a_session, hides_the_loss, ignores_a_client, ignores_an_idle_thread, ignores_and_returns, increments, invocation, is_told, keeps_an_answer, lists_in_the_wrong_order, locks, loses_what_it_gave_back, makes, makes_a_call_up, never_returns, one_client, one_is, opening, opens, opens_what_nobody_asked, release, returns_at_will, returns_by_an_older_request, returns_to_nobody, returns_twice, returns_what_it_needed, shows, skips_a_line, takes_a_number_twice, tells_two_histories, thread, zero_is}
 
 -- a return of client 1 and its thread 1
 abbrev row : ℕ → ℕ → Answer → Returned
@@ -137,13 +137,18 @@ only-answered : (x : Execution) (e : End) → IsAnswered x e ⊎ IsOfEndedGroup 
 only-answered x e (inl a) = a
 only-answered x e (inr a) = absurd a
 
-nobody : AllAnswered one_client answers_nobody → ⊥
-nobody h = let a = only-answered answers_nobody (is_told 1 1 2 zero_is) (h (is_told 1 1 2 zero_is) (at-head (is_told 1 1 2 zero_is) [])) in
-    let e = ap (λ (z : Request). z.call.number) (one-is (asks 1 0 1 get) a.request a.began) in let k = ap (λ (z : Invocation). z.number) a.call_is in absurd (omega (arith, e, k))
-
 abbrev value-of : Answer → ℤ
 value-of (answer.Value v) = v
 value-of a = pos 0
+
+older_round : RoundsAreTold counts_an_older_round → ⊥
+older_round h = let t = h (asks 1 2 3 (op.Latch (97 ∷ []) (latch.Down 0))) (97 ∷ []) 0 (Contains-push (asks 1 1 2 (op.Latch (97 ∷ []) latch.Round) ∷ []) (asks 1 2 3 (op.Latch (97 ∷ []) (latch.Down 0)))) refl in
+    let is : one_is ≡ answer.Value t.value = sym (ap (λ (z : End). z.answer) (one-is (is_told 1 2 2 one_is) t.end t.ended)) ∙ t.says in
+    let n = ap (λ v. unsigned_abs (value-of v)) is ∙ t.is_round in absurd (omega (arith, n))
+
+nobody : AllAnswered one_client answers_nobody → ⊥
+nobody h = let a = only-answered answers_nobody (is_told 1 1 2 zero_is) (h (is_told 1 1 2 zero_is) (at-head (is_told 1 1 2 zero_is) [])) in
+    let e = ap (λ (z : Request). z.call.number) (one-is (asks 1 0 1 get) a.request a.began) in let k = ap (λ (z : Invocation). z.number) a.call_is in absurd (omega (arith, e, k))
 
 at_will : AllAnswered one_client answers_at_will → ⊥
 at_will h = let a = only-answered answers_at_will (is_told 1 1 1 one_is) (h (is_told 1 1 1 one_is) (at-head (is_told 1 1 1 one_is) [])) in
@@ -481,6 +486,7 @@ are-refused = record {
   older_call = older_call;
   asked_twice = asked_twice;
   number_twice = number_twice;
+  older_round = older_round;
   nobody = nobody;
   at_will = at_will;
   too_early = too_early;

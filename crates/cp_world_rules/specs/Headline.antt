@@ -4,7 +4,7 @@ use Rattle.cp_base.specs.declared.identifier.GroupId.{GroupId}
 use Rattle.cp_events.specs.declared.plan.Plan.{Plan}
 use Rattle.cp_events.specs.declared.schedule.Line.{Line}
 use Rattle.cp_world_rules.specs.Execution.{Execution, history}
-use Rattle.cp_world_rules.specs.Requests.{AsksItselfOnce, CallsStand, EndsOnce, NumbersRise, Requested, ReturnsOnce}
+use Rattle.cp_world_rules.specs.Requests.{AsksItselfOnce, CallsStand, EndsOnce, NumbersRise, Requested, ReturnsOnce, RoundsAreTold}
 use Rattle.cp_world_rules.specs.Entries.{EntriesAreAsked, HistoriesStand, HistoryIsGood, LengthsAreTrue, RowsAreInOrder}
 use Rattle.cp_world_rules.specs.Answers.{AllAnswered, GoesOn}
 use Rattle.cp_world_rules.specs.Returns.{AllReturnsTell}
@@ -24,6 +24,7 @@ pub record Headline (plan : Plan) (lines : List Line) (x : Execution) : Type 0 w
   pub requests : Requested plan x
   pub itself_once : AsksItselfOnce plan x
   pub numbers : NumbersRise x.requests
+  pub rounds : RoundsAreTold x
   -- each answer is the one-thread machine's, was committed between its request and the end of that, and has its cause
   pub answers : AllAnswered plan x
   pub ends_once : EndsOnce x.ends

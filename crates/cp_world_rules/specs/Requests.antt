@@ -1,5 +1,5 @@
 -- What is promised of calls and of their requests.
-use Rattle.std.specs.Prelude.{◌≡◌, ◌≤◌, ◌<◌, ◌⊎◌, ℕ, Bool, true, false, List, Some, None, slice_get, Contains}
+use Rattle.std.specs.Prelude.{◌≡◌, ◌≤◌, ◌<◌, ◌⊎◌, ℕ, Bool, true, false, List, Some, None, slice_get, Contains, ℤ, unsigned_abs}
 use Rattle.cp_base.specs.Identifiers.{replay_id}
 use Rattle.cp_base.specs.declared.identifier.ClientNo.{ClientNo}
 use Rattle.cp_base.specs.declared.identifier.ThreadNo.{ThreadNo}
@@ -83,6 +83,25 @@ Requested plan x = (r : Request) → Contains x.requests r → ((c : Called) × 
 abbrev pub AsksItselfOnce : Plan → Execution → Type 0
 AsksItselfOnce plan x = (j k : ℕ) (a b : Request) (c : Called) → slice_get x.requests j ≡ Some a → slice_get x.requests k ≡ Some b
     → IsRequestOfCall plan x a c → IsRequestOfCall plan x b c → IsForItself plan c.op a.op → IsForItself plan c.op b.op → j ≡ k
+
+-- An answer of the same event told the request's thread this round of the latch, for which it had asked.
+pub record TellsRound (requests : List Request) (ends : List End) (q : Request) (name : List ℕ) (round : ℕ) : Type 0 where
+  pub asked : Request
+  pub began : Contains requests asked
+  pub end : End
+  pub ended : Contains ends end
+  pub of_request : asked.call ≡ end.call
+  pub by_client : end.call.client ≡ q.call.client
+  pub by_thread : end.call.thread ≡ q.call.thread
+  pub here : end.event ≡ q.event
+  pub asks : asked.op ≡ op.Latch name latch.Round
+  pub value : ℤ
+  pub says : end.answer ≡ answer.Value value
+  pub is_round : unsigned_abs value ≡ round
+
+-- A countdown is of the round that its call was told.
+abbrev pub RoundsAreTold : Execution → Type 0
+RoundsAreTold x = (q : Request) (name : List ℕ) (round : ℕ) → Contains x.requests q → q.op ≡ op.Latch name (latch.Down round) → TellsRound x.requests x.ends q name round
 
 -- The numbers of a thread's requests rise: so no two requests have one invocation.
 abbrev pub NumbersRise : List Request → Type 0

@@ -7,6 +7,7 @@ use Rattle.cp_base.specs.declared.identifier.ThreadNo.{ThreadNo}
 use Rattle.cp_answers.specs.declared.answer.Answer.{Answer}
 use Rattle.cp_answers.specs.declared.answer.Answer.TheVariants as answer
 use Rattle.cp_answers.specs.declared.ended_by.EndedBy.TheVariants as ended_by
+use Rattle.cp_object_ops.specs.declared.latch_op.LatchOp.TheVariants as latch
 use Rattle.cp_object_ops.specs.declared.lock_op.LockOp.TheVariants as lock
 use Rattle.cp_object_ops.specs.declared.long_op.LongOp.TheVariants as long
 use Rattle.cp_op_values.specs.declared.wish.Wish.TheVariants as wish
@@ -25,6 +26,7 @@ use Rattle.cp_events.specs.declared.object.Object.{Object}
 use Rattle.cp_events.specs.declared.plan.Plan.{Plan}
 use Rattle.cp_events.specs.declared.schedule.Line.{Line}
 use Rattle.cp_events.specs.declared.schedule.Line.TheVariants as line
+use Rattle.cp_events.specs.declared.user_op.LatchCall.TheVariants as latch_call
 use Rattle.cp_events.specs.declared.user_op.LockCall.TheVariants as lock_call
 use Rattle.cp_events.specs.declared.user_op.LongCall.TheVariants as long_call
 use Rattle.cp_events.specs.declared.user_op.UserOp.{UserOp}
@@ -34,7 +36,7 @@ use Rattle.cp_world_rules.specs.Rows.{Called, Committed, End, Request, entries_o
 use Rattle.cp_world_rules.specs.World.{shows_nothing}
 use Rattle.cp_world_rules.specs.Execution.{Execution, Settled, execution_of, histories_of, history}
 use Rattle.cp_group_state.specs.History.{IsFullyOrderly}
-use Rattle.cp_world_rules.specs.Requests.{AsksItselfOnce, CallsStand, EndsOnce, NumbersRise, Requested, ReturnsOnce}
+use Rattle.cp_world_rules.specs.Requests.{AsksItselfOnce, CallsStand, EndsOnce, NumbersRise, Requested, ReturnsOnce, RoundsAreTold}
 use Rattle.cp_world_rules.specs.Entries.{EntriesAreAsked, EventsRise, HistoriesStand, LengthsAreTrue, NamesOwnSessions, RowsAreInOrder}
 use Rattle.cp_world_rules.specs.Answers.{AllAnswered, GoesOn}
 use Rattle.cp_world_rules.specs.Returns.{AllReturnsTell}
@@ -184,6 +186,15 @@ asks_twice = record right { effects = opening ∷ shows 1 (call_of increments) [
 -- Two requests of one number.
 abbrev pub takes_a_number_twice : Execution
 takes_a_number_twice = record right { requests = asks 1 0 1 get ∷ asks 2 1 1 get ∷ [] }
+
+-- A call counts down a round that it was not told.
+abbrev pub counts_an_older_round : Execution
+counts_an_older_round = record nowhere {
+  effects = opening ∷ shows 1 (call_of (user.Latch a latch_call.Down)) [] [] ∷ [];
+  calls = makes 1 (user.Latch a latch_call.Down) ∷ [];
+  requests = asks 1 1 2 (op.Latch (97 ∷ []) latch.Round) ∷ asks 1 2 3 (op.Latch (97 ∷ []) (latch.Down 0)) ∷ [];
+  ends = is_told 1 2 2 one_is ∷ [];
+}
 
 -- An answer to a request that nobody made.
 abbrev pub answers_nobody : Execution
@@ -367,6 +378,7 @@ pub record AreRefused : Type 0 where
   pub older_call : Requested one_client asks_for_an_older_call → ⊥
   pub asked_twice : AsksItselfOnce one_client asks_twice → ⊥
   pub number_twice : NumbersRise takes_a_number_twice.requests → ⊥
+  pub older_round : RoundsAreTold counts_an_older_round → ⊥
   -- answers
   pub nobody : AllAnswered one_client answers_nobody → ⊥
   pub at_will : AllAnswered one_client answers_at_will → ⊥
