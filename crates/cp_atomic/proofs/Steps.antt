@@ -11,7 +11,7 @@ use Rattle.cp_object_ops.specs.declared.ref_op.RefOp.{RefOp}
 use Rattle.cp_group_state.specs.Rows.{Named, find, put, name_cmp}
 use Rattle.cp_group_state.specs.Invariants.{IsRising}
 use Rattle.cp_group_state.specs.Atomics.{set_value, long_set, long_answer, long_at, long_step, ref_set, ref_answer, ref_at, ref_step}
-use Rattle.cp_rows.proofs.Changes.{put_there}
+use Rattle.cp_rows.proofs.Ordered.{put_there}
 
 -- what a call sets is written over what stands
 pub written : {X : Type 0} (rows : Named X) (name : List ℕ) (now next : X) (set : Option X) (a : Answer) → IsRising name_cmp rows → find name_cmp rows name ≡ Some now

@@ -3,9 +3,9 @@ ghost use Rattle.std.specs.Prelude.{◌≡◌, None, Some, IfOk, OnOk, OnErr};
 ghost use Rattle.cp_group_state.specs.Rows.{find, name_cmp};
 ghost use Rattle.cp_group_state.specs.Atomics.{set_value};
 
+use cp_base::limits::MOST_ROWS;
 use cp_base::{Name, NoMemory};
 use cp_ops::Answer;
-use cp_rows::MOST;
 use std::collections::BTreeMap;
 
 /// Makes the row of a name that has none, and gives the answer of the call that sets it; gives `TableFull` and leaves
@@ -21,8 +21,8 @@ pub(crate) fn make_row<V: Drop>(
     ensures answer { IfOk result (λ given. given ≡ (set_value rows.old.entries name.now (Some value) answer).answer) }
     ensures err { OnErr result (rows.new.entries ≡ rows.old.entries) }
 {
-    if rows.len() >= MOST as usize {
-        return Ok(Answer::TableFull(MOST));
+    if rows.len() >= MOST_ROWS as usize {
+        return Ok(Answer::TableFull(MOST_ROWS));
     }
     let name = name.clone()?;
     rows.insert(name, value)?;

@@ -36,12 +36,18 @@ use Rattle.cp_group_state.specs.declared.rows.MemoryRow.{MemoryRow}
 use Rattle.cp_group_state.specs.Memory.{note, note_at, note_all, has_memory}
 use Rattle.cp_group_state.specs.declared.rows.SessionRow.{SessionRow}
 use Rattle.cp_group_state.specs.Sessions.{beaten, session_of, is_of, is_open_for, is_among, is_at_version, unchanged_since}
-use Rattle.cp_group_state.specs.Locks.{Taken, Fence, Limit, Full, Busy, Released, Freed, Kept, NotOwner, acquired, held_among, released_by}
+use Rattle.cp_group_state.specs.declared.outcome.Taken.{Taken}
+use Rattle.cp_group_state.specs.declared.outcome.Taken.TheVariants.{Fence, Limit, Busy}
+use Rattle.cp_group_state.specs.declared.outcome.Released.{Released}
+use Rattle.cp_group_state.specs.declared.outcome.Released.TheVariants.{Freed, Kept, NotOwner}
+use Rattle.cp_group_state.specs.Locks.{acquired, held_among, released_by}
 use Rattle.cp_group_state.specs.declared.rows.SemaphoreRow.{SemaphoreRow}
-use Rattle.cp_group_state.specs.Semaphores.{SemOutcome, sem_step, served}
-use Rattle.cp_group_state.specs.Semaphores as semaphore
-use Rattle.cp_group_state.specs.Latches.{LatchOutcome, latch_step}
-use Rattle.cp_group_state.specs.Latches as countdown
+use Rattle.cp_group_state.specs.declared.outcome.SemOutcome.{SemOutcome}
+use Rattle.cp_group_state.specs.Semaphores.{sem_step, served}
+use Rattle.cp_group_state.specs.declared.outcome.SemOutcome.TheVariants as semaphore
+use Rattle.cp_group_state.specs.declared.outcome.LatchOutcome.{LatchOutcome}
+use Rattle.cp_group_state.specs.Latches.{latch_step}
+use Rattle.cp_group_state.specs.declared.outcome.LatchOutcome.TheVariants as countdown
 use Rattle.cp_group_state.specs.Atomics.{long_step, ref_step}
 use Rattle.cp_group_state.specs.Maps.{map_step}
 use Rattle.cp_group_state.specs.GroupState.{GroupState}
@@ -295,11 +301,11 @@ module _ (C : ℕ → Type 0) (D : Object → Type 0) (i : ℕ) (e : Entry) wher
   acts-wait w wish.NoLimit s = stays-by s
   acts-wait w (wish.Within ms) s = either (λ (o : Outcome). ActsBy C D i e s o.change) (ms == 0) _ _ (stays-by s) (stays-by s)
 
-  acts-on_taken : (w : Waiter) (x : Wish) (taken : Taken) (s : GroupState) → ActsBy C D i e s (on_taken w x taken s).change
-  acts-on_taken w x (Fence f) s = stays-by s
-  acts-on_taken w x (Limit n) s = stays-by s
-  acts-on_taken w x Full s = stays-by s
-  acts-on_taken w x Busy s = acts-wait w x s
+  acts-on_taken : (w : Waiter) (x : Wish) (taken : Option Taken) (s : GroupState) → ActsBy C D i e s (on_taken w x taken s).change
+  acts-on_taken w x (Some (Fence f)) s = stays-by s
+  acts-on_taken w x (Some (Limit n)) s = stays-by s
+  acts-on_taken w x None s = stays-by s
+  acts-on_taken w x (Some Busy) s = acts-wait w x s
 
   acts-on_released : (name : List ℕ) (released : Released) (s : GroupState) → ActsBy C D i e s (on_released i name released s).change
   acts-on_released name Freed s = acts-hand_over name s
@@ -323,7 +329,7 @@ module _ (C : ℕ → Type 0) (D : Object → Type 0) (i : ℕ) (e : Entry) wher
   acts-on_sem : (call : Invocation) (key : Object) (l : SemOp) (r : SemOutcome) (s : GroupState) → ActsBy C D i e s (on_sem key (sem_wait call key l s) r (record s { semaphores = (sem_step key l s.semaphores).after })).change
   acts-on_sem call key l (semaphore.Done a) s = stays-by s
   acts-on_sem call key l semaphore.Wants s = acts-sem_wait call key l s
-  acts-on_sem call key l (semaphore.Served a) s = acts-serve key (record s { semaphores = (sem_step key l s.semaphores).after })
+  acts-on_sem call key l (semaphore.Served a available) s = acts-serve key (record s { semaphores = (sem_step key l s.semaphores).after })
 
   acts-sem : (call : Invocation) (key : Object) (l : SemOp) (s : GroupState) → ActsBy C D i e s (sem_rule call key l s).change
   acts-sem call key l s = either (λ (r : Outcome). ActsBy C D i e s r.change) (is_behind key l s) _ _ (acts-sem_wait call key l s) (acts-on_sem call key l (sem_step key l s.semaphores).outcome s)

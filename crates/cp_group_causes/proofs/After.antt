@@ -31,7 +31,9 @@ use Rattle.cp_group_state.specs.GroupState.{GroupState}
 use Rattle.cp_group_state.specs.Changes.{Change, for_each}
 use Rattle.cp_group_state.specs.Serving.{serve, serve_from, hand_over, hand_to}
 use Rattle.cp_group_state.specs.Closing.{close, concerned, end_sessions, free_locks, free_permits}
-use Rattle.cp_group_state.specs.Outcomes.{Outcome, Reply, Answered, Waits}
+use Rattle.cp_group_state.specs.declared.outcome.Reply.{Reply}
+use Rattle.cp_group_state.specs.declared.outcome.Reply.TheVariants.{Answered, Waits}
+use Rattle.cp_group_state.specs.Outcomes.{Outcome}
 use Rattle.cp_group_state.specs.Destroying.{is_gone}
 use Rattle.cp_group_state.specs.Protected.{session_in}
 use Rattle.cp_group_state.specs.Apply.{Applied, after_change, apply, apply_call, by_memory, by_session, give_again, is_elsewhere, join, outcome, perform, remembered, settle, supersede, told}

@@ -27,7 +27,9 @@ use Rattle.cp_group_state.specs.GroupState.{GroupState, empty}
 use Rattle.cp_group_state.specs.Changes.{Change, end_all, for_each}
 use Rattle.cp_group_state.specs.Closing.{close}
 use Rattle.cp_group_state.specs.Serving.{serve_left}
-use Rattle.cp_group_state.specs.Outcomes.{Outcome, Reply, Answered, Waits}
+use Rattle.cp_group_state.specs.declared.outcome.Reply.{Reply}
+use Rattle.cp_group_state.specs.declared.outcome.Reply.TheVariants.{Answered, Waits}
+use Rattle.cp_group_state.specs.Outcomes.{Outcome}
 use Rattle.cp_group_state.specs.Destroying.{is_gone, names_gone, object_of}
 use Rattle.cp_group_state.specs.Protected.{session_in}
 use Rattle.cp_group_state.specs.Apply.{Applied, after_change, apply, apply_call, by_memory, by_session, give_again, is_elsewhere, members_answer, outcome, perform, rule, run, settle, settle_wait, supersede, time_out, told}

@@ -32,17 +32,24 @@ use Rattle.cp_group_state.specs.Waiters.{first_on}
 use Rattle.cp_group_state.specs.declared.rows.SessionRow.{SessionRow}
 use Rattle.cp_group_state.specs.Sessions.{session_of}
 use Rattle.cp_group_state.specs.declared.rows.LockRow.{LockRow}
-use Rattle.cp_group_state.specs.Locks.{Acquired, Released, Freed, Kept, NotOwner, released_by, is_free, is_held_by, lock_at, most_holds}
+use Rattle.cp_group_state.specs.declared.outcome.Released.{Released}
+use Rattle.cp_group_state.specs.declared.outcome.Released.TheVariants.{Freed, Kept, NotOwner}
+use Rattle.cp_group_state.specs.Locks.{Acquired, released_by, is_free, is_held_by, lock_at, most_holds}
 use Rattle.cp_group_state.specs.declared.rows.Holder.{Holder}
 use Rattle.cp_group_state.specs.declared.rows.SemaphoreRow.{SemaphoreRow}
-use Rattle.cp_group_state.specs.Semaphores.{SemOutcome, SemStep, sem_step, sem_step_on, held, is_held}
-use Rattle.cp_group_state.specs.Semaphores as semaphore
-use Rattle.cp_group_state.specs.Latches.{LatchOutcome, LatchStep, latch_step, latch_at, is_over, counted_calls, most_counted}
-use Rattle.cp_group_state.specs.Latches as countdown
+use Rattle.cp_group_state.specs.declared.outcome.SemOutcome.{SemOutcome}
+use Rattle.cp_group_state.specs.Semaphores.{SemStep, sem_step, sem_step_on, held, is_held}
+use Rattle.cp_group_state.specs.declared.outcome.SemOutcome.TheVariants as semaphore
+use Rattle.cp_group_state.specs.declared.rows.LatchRow.{LatchRow}
+use Rattle.cp_group_state.specs.declared.outcome.LatchOutcome.{LatchOutcome}
+use Rattle.cp_group_state.specs.Latches.{LatchStep, latch_step, latch_at, is_over, counted_calls, most_counted}
+use Rattle.cp_group_state.specs.declared.outcome.LatchOutcome.TheVariants as countdown
 use Rattle.cp_group_state.specs.Atomics.{AtomicStep, long_at, ref_at, long_set, long_answer, ref_set, ref_answer, set_value}
 use Rattle.cp_group_state.specs.Maps.{Effect, Stays, Sets, Goes, MapStep, Pairs, map_answer, map_effect, with_effect, key_of}
 use Rattle.cp_group_state.specs.GroupState.{GroupState}
-use Rattle.cp_group_state.specs.Outcomes.{Outcome, Reply, Answered, Waits, wait}
+use Rattle.cp_group_state.specs.declared.outcome.Reply.{Reply}
+use Rattle.cp_group_state.specs.declared.outcome.Reply.TheVariants.{Answered, Waits}
+use Rattle.cp_group_state.specs.Outcomes.{Outcome, wait}
 use Rattle.cp_group_state.specs.LockRules.{lock_rule, on_taken, on_released, owner_answer}
 use Rattle.cp_group_state.specs.SemaphoreRules.{sem_rule, sem_wait, on_sem, is_behind}
 use Rattle.cp_group_state.specs.SessionRules.{session_rule, opened, beat}
@@ -206,7 +213,7 @@ lock-replies i call name (lock.Release session) s = released-replies i call (op.
 abbrev pub SemPlain : Object → SemOp → GroupState → SemOutcome → Type 0
 SemPlain key l g (semaphore.Done a) = IsPlain a
 SemPlain key l g semaphore.Wants = permits_are_short key l g ≡ true
-SemPlain key l g (semaphore.Served a) = IsPlain a
+SemPlain key l g (semaphore.Served a available) = IsPlain a
 
 step-plain : (key : Object) (l : SemOp) (row : Option SemaphoreRow) (g : GroupState) → find object_cmp g.semaphores.rows key ≡ row → SemPlain key l g (sem_step_on key l row g.semaphores).outcome
 step-plain key sem.Available None g is = tt
@@ -245,7 +252,7 @@ module _ (o : Op) (s : GroupState) (call : Invocation) (key : Object) where
   on_sem-replies : (l : SemOp) (r : SemOutcome) (t u : GroupState) → IsOnSem call o key l → SemPlain key l s r → RepliesSo call o s (on_sem key (sem_wait call key l t) r u).reply
   on_sem-replies l (semaphore.Done a) t u h p = of-plain call o s a p
   on_sem-replies l semaphore.Wants t u h p = sem_wait-replies l t h p
-  on_sem-replies l (semaphore.Served a) t u h p = of-plain call o s a p
+  on_sem-replies l (semaphore.Served a available) t u h p = of-plain call o s a p
 
   behind-short : (l : SemOp) → is_behind key l s ≡ true → permits_are_short key l s ≡ true
   behind-short (sem.Acquire session n x) b = or-first (is_some (first_on key.1 key.0 s.waiters)) (has_fewer (find object_cmp s.semaphores.rows key) n)

@@ -18,7 +18,9 @@ use Rattle.cp_answers.specs.Answers.{answer_grammar}
 use Rattle.cp_answers.specs.declared.answer.Answer.TheVariants as answer
 use Rattle.cp_group_state.specs.declared.rows.LatchRow.{LatchRow}
 use Rattle.cp_group_state.specs.Rows.{Named, find, put, without, has_room, most, name_cmp}
-use Rattle.cp_group_state.specs.Latches.{LatchOutcome, LatchStep, Done, Wants, Opened, new_latch, or_new, latch_at, is_counted, counted_calls, most_counted, next_round, set_latch, counted_down, is_over, count_down, latch_step}
+use Rattle.cp_group_state.specs.declared.outcome.LatchOutcome.{LatchOutcome}
+use Rattle.cp_group_state.specs.declared.outcome.LatchOutcome.TheVariants.{Done, Wants, Opened}
+use Rattle.cp_group_state.specs.Latches.{LatchStep, new_latch, or_new, latch_at, is_counted, counted_calls, most_counted, next_round, set_latch, counted_down, is_over, count_down, latch_step}
 use Rattle.cp_group_state.specs.Invariants.{IsRising}
 use Rattle.cp_group_state.proofs.Keyed.{name_key}
 use Rattle.cp_group_state.proofs.Rising.{less-none, above-all}

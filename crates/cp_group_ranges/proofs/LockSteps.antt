@@ -11,8 +11,11 @@ use Rattle.cp_answers.specs.Answers.{answer_grammar}
 use Rattle.cp_group_state.specs.declared.rows.Holder.{Holder}
 use Rattle.cp_group_state.specs.declared.rows.LockRow.{LockRow}
 use Rattle.cp_group_state.specs.Rows.{Named, find, put, has_room, most, name_cmp}
-use Rattle.cp_group_state.specs.Locks as locks
-use Rattle.cp_group_state.specs.Locks.{Acquired, Release, Taken, Fence, Limit, Full, Busy, free_lock, held_once, or_free, lock_at, is_free, is_held_by, is_held_among, most_holds, acquired, Freed, NotOwner, released_by, held_among, freed, freed_all}
+use Rattle.cp_group_state.specs.declared.outcome.Released.TheVariants as locks
+use Rattle.cp_group_state.specs.declared.outcome.Taken.{Taken}
+use Rattle.cp_group_state.specs.declared.outcome.Taken.TheVariants.{Fence, Limit, Busy}
+use Rattle.cp_group_state.specs.declared.outcome.Released.TheVariants.{Freed, NotOwner}
+use Rattle.cp_group_state.specs.Locks.{Acquired, Release, free_lock, held_once, or_free, lock_at, is_free, is_held_by, is_held_among, most_holds, acquired, released_by, held_among, freed, freed_all}
 use Rattle.cp_group_state.specs.LockRules.{owner_answer}
 use Rattle.cp_group_state.proofs.Keyed.{name_key, find-put_same}
 use Rattle.cp_group_state.proofs.Walk.{cases, either}
@@ -32,11 +35,11 @@ held-fits i n who g f s t = record { name = f; session = s; thread = t; fence = 
 lock-found : (rows : Named LockRow) (n : List ℕ) → spelled.name.Fits n → LocksKept rows → LockFits (n, lock_at rows n)
 lock-found rows n f h = kept-or name_cmp name_key nat_list_cmp_total LockFits (λ (r : LockRow). LockFits (n, r)) rows n h or_free (free-fits n f) (λ x p. p)
 
-abbrev pub TakenFits : Taken → Type 0
-TakenFits (Fence f) = index.Fits f
-TakenFits (Limit n) = n ≤ 2 ^ 32 - 1
-TakenFits Full = Unit {0}
-TakenFits Busy = Unit {0}
+abbrev pub TakenFits : Option Taken → Type 0
+TakenFits (Some (Fence f)) = index.Fits f
+TakenFits (Some (Limit n)) = n ≤ 2 ^ 32 - 1
+TakenFits None = Unit {0}
+TakenFits (Some Busy) = Unit {0}
 
 abbrev AcquiredFits : Acquired → Type 0
 AcquiredFits r = LocksKept r.rows × TakenFits r.taken

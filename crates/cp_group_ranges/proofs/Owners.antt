@@ -33,17 +33,25 @@ use Rattle.cp_group_state.specs.Rows.{Object, find, put, has_room, most, object_
 use Rattle.cp_group_state.specs.Waiters.{Ended, waits_on, first, same_call, answered_by, ending, still_waiting, stands}
 use Rattle.cp_group_state.specs.Memory.{has_memory, note_at, note, note_all}
 use Rattle.cp_group_state.specs.Sessions.{is_of, is_open_for, session_of, is_among, unchanged_since, beaten}
-use Rattle.cp_group_state.specs.Locks.{Taken, Fence, Limit, Full, Busy, Released, Freed, Kept, NotOwner, acquired, released_by, held_among}
-use Rattle.cp_group_state.specs.Semaphores.{Semaphores, SemStep, SemOutcome, is_held, held, set_held, take, at_least_none, raise_total, release_held, sem_step, sem_step_on, served, take_on, take_all}
-use Rattle.cp_group_state.specs.Semaphores as semaphore
-use Rattle.cp_group_state.specs.Latches.{LatchOutcome, latch_step}
-use Rattle.cp_group_state.specs.Latches as countdown
+use Rattle.cp_group_state.specs.declared.outcome.Taken.{Taken}
+use Rattle.cp_group_state.specs.declared.outcome.Taken.TheVariants.{Fence, Limit, Busy}
+use Rattle.cp_group_state.specs.declared.outcome.Released.{Released}
+use Rattle.cp_group_state.specs.declared.outcome.Released.TheVariants.{Freed, Kept, NotOwner}
+use Rattle.cp_group_state.specs.Locks.{acquired, released_by, held_among}
+use Rattle.cp_group_state.specs.declared.outcome.SemOutcome.{SemOutcome}
+use Rattle.cp_group_state.specs.Semaphores.{Semaphores, SemStep, is_held, held, set_held, take, at_least_none, raise_total, release_held, sem_step, sem_step_on, served, take_on, take_all}
+use Rattle.cp_group_state.specs.declared.outcome.SemOutcome.TheVariants as semaphore
+use Rattle.cp_group_state.specs.declared.outcome.LatchOutcome.{LatchOutcome}
+use Rattle.cp_group_state.specs.Latches.{latch_step}
+use Rattle.cp_group_state.specs.declared.outcome.LatchOutcome.TheVariants as countdown
 use Rattle.cp_group_state.specs.GroupState.{GroupState, empty}
 use Rattle.cp_group_state.specs.Changes.{Change, for_each, finish, end_all}
 use Rattle.cp_group_state.specs.Serving.{serve_from, serve, left_by, serve_left, hand_to, hand_over}
 use Rattle.cp_group_state.specs.Closing.{free_locks, free_permits, concerned, end_sessions, close}
 use Rattle.cp_group_state.specs.Destroying.{add_gone, drop_rows, destroy_rule, names_gone, object_of}
-use Rattle.cp_group_state.specs.Outcomes.{Reply, Answered, Waits, Outcome, wait}
+use Rattle.cp_group_state.specs.declared.outcome.Reply.{Reply}
+use Rattle.cp_group_state.specs.declared.outcome.Reply.TheVariants.{Answered, Waits}
+use Rattle.cp_group_state.specs.Outcomes.{Outcome, wait}
 use Rattle.cp_group_state.specs.LockRules.{on_taken, on_released, lock_rule}
 use Rattle.cp_group_state.specs.SemaphoreRules.{on_sem, sem_wait, is_behind, sem_rule}
 use Rattle.cp_group_state.specs.LatchRules.{on_latch}
@@ -265,11 +273,11 @@ own-wait : (so : Option ℕ) (w : Waiter) (x : Wish) (s : GroupState) → Of [] 
 own-wait so w wish.NoLimit s h n = record { state = h; named = n }
 own-wait so w (wish.Within ms) s h n = either (OwnedOutcome so) (ms == 0) _ _ (record { state = h; named = n }) (record { state = h; named = n })
 
-own-taken : (so : Option ℕ) (w : Waiter) (x : Wish) (taken : Taken) (s : GroupState) → Of [] s → NamedOpen s so → OwnedOutcome so (on_taken w x taken s)
-own-taken so w x (Fence f) s h n = record { state = h; named = n }
-own-taken so w x (Limit l) s h n = record { state = h; named = n }
-own-taken so w x Full s h n = record { state = h; named = n }
-own-taken so w x Busy s h n = own-wait so w x s h n
+own-taken : (so : Option ℕ) (w : Waiter) (x : Wish) (taken : Option Taken) (s : GroupState) → Of [] s → NamedOpen s so → OwnedOutcome so (on_taken w x taken s)
+own-taken so w x (Some (Fence f)) s h n = record { state = h; named = n }
+own-taken so w x (Some (Limit l)) s h n = record { state = h; named = n }
+own-taken so w x None s h n = record { state = h; named = n }
+own-taken so w x (Some Busy) s h n = own-wait so w x s h n
 
 still-named : (s : GroupState) (c : Change) (so : Option ℕ) → OwnedChange [] s c → NamedOpen s so → NamedOpen c.state so
 still-named s c None k n = tt
@@ -297,7 +305,7 @@ own-sem_wait call key (sem.Reduce session k) so s h n = record { state = h; name
 own-on_sem : (key : Object) (waits : Outcome) (r : SemOutcome) (so : Option ℕ) (s : GroupState) → OwnedOutcome so waits → Of [] s → NamedOpen s so → OwnedOutcome so (on_sem key waits r s)
 own-on_sem key waits (semaphore.Done a) so s w h n = record { state = h; named = n }
 own-on_sem key waits semaphore.Wants so s w h n = w
-own-on_sem key waits (semaphore.Served a) so s w h n = let k = own-serve [] key s h in record { state = k.state; named = still-named s (serve key s) so k n }
+own-on_sem key waits (semaphore.Served a available) so s w h n = let k = own-serve [] key s h in record { state = k.state; named = still-named s (serve key s) so k n }
 
 own-sem : (call : Invocation) (key : Object) (o : SemOp) (so : Option ℕ) (s : GroupState) → (is_held key.1 ≡ true → OpenNamed [] s.sessions (session_of_sem o)) → Of [] s → NamedOpen s so → OwnedOutcome so (sem_rule call key o s)
 own-sem call key o so s there h n = either (OwnedOutcome so) (is_behind key o s) _ _ (own-sem_wait call key o so s h n)

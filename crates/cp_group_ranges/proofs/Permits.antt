@@ -18,7 +18,9 @@ use Rattle.cp_group_state.specs.declared.rows.SemaphoreRow.{SemaphoreRow}
 use Rattle.cp_group_state.specs.declared.rows.Waiter.{Waiter}
 use Rattle.cp_group_state.specs.Rows.{Object, find, put, has_room, most, object_cmp, holding_cmp}
 use Rattle.cp_group_state.specs.Waiters.{waits_on}
-use Rattle.cp_group_state.specs.Semaphores.{Semaphores, SemStep, SemOutcome, Done, Wants, Served, is_held, held, set_held, take, give_back, change_total, at_least_none, raise_total, release_held, sem_step, sem_step_on, served, take_on, take_all}
+use Rattle.cp_group_state.specs.declared.outcome.SemOutcome.{SemOutcome}
+use Rattle.cp_group_state.specs.declared.outcome.SemOutcome.TheVariants.{Done, Wants, Served}
+use Rattle.cp_group_state.specs.Semaphores.{Semaphores, SemStep, is_held, held, set_held, take, give_back, change_total, at_least_none, raise_total, release_held, sem_step, sem_step_on, served, take_on, take_all}
 use Rattle.cp_group_state.specs.Invariants.{IsRising, IsBalanced, IsBalancedAt, held_by_all, held_of}
 use Rattle.cp_group_state.proofs.Keyed.{find-put_same, object_key}
 use Rattle.cp_group_state.proofs.Walk.{cases, either}
@@ -190,7 +192,7 @@ module _ (key : Object) (row : SemaphoreRow) (s : Semaphores) (h : PermitsKept s
 abbrev pub SemSays : SemOutcome → Type 0
 SemSays (Done a) = answer_grammar.Fits a
 SemSays Wants = Unit {0}
-SemSays (Served a) = answer_grammar.Fits a
+SemSays (Served a available) = answer_grammar.Fits a
 
 abbrev StepFits : Semaphores → SemStep → Type 0
 StepFits s r = Parts s r.after × SemSays r.outcome

@@ -29,16 +29,24 @@ use Rattle.cp_group_state.specs.declared.rows.SessionRow.{SessionRow}
 use Rattle.cp_group_state.specs.Rows.{Object, find, put, has_room, most, object_cmp}
 use Rattle.cp_group_state.specs.Waiters.{first, same_client, waits_on, first_on}
 use Rattle.cp_group_state.specs.Sessions.{session_of, beaten}
-use Rattle.cp_group_state.specs.Locks.{Taken, Fence, Limit, Full, Busy, Released, Freed, Kept, NotOwner, acquired, released_by}
-use Rattle.cp_group_state.specs.Semaphores.{SemOutcome, sem_step}
-use Rattle.cp_group_state.specs.Semaphores as semaphore
-use Rattle.cp_group_state.specs.Latches.{LatchOutcome, latch_step}
-use Rattle.cp_group_state.specs.Latches as countdown
+use Rattle.cp_group_state.specs.declared.outcome.Taken.{Taken}
+use Rattle.cp_group_state.specs.declared.outcome.Taken.TheVariants.{Fence, Limit, Busy}
+use Rattle.cp_group_state.specs.declared.outcome.Released.{Released}
+use Rattle.cp_group_state.specs.declared.outcome.Released.TheVariants.{Freed, Kept, NotOwner}
+use Rattle.cp_group_state.specs.Locks.{acquired, released_by}
+use Rattle.cp_group_state.specs.declared.outcome.SemOutcome.{SemOutcome}
+use Rattle.cp_group_state.specs.Semaphores.{sem_step}
+use Rattle.cp_group_state.specs.declared.outcome.SemOutcome.TheVariants as semaphore
+use Rattle.cp_group_state.specs.declared.outcome.LatchOutcome.{LatchOutcome}
+use Rattle.cp_group_state.specs.Latches.{latch_step}
+use Rattle.cp_group_state.specs.declared.outcome.LatchOutcome.TheVariants as countdown
 use Rattle.cp_group_state.specs.Atomics.{long_step, ref_step}
 use Rattle.cp_group_state.specs.Maps.{map_step}
 use Rattle.cp_group_state.specs.GroupState.{GroupState}
 use Rattle.cp_group_state.specs.Changes.{Change}
-use Rattle.cp_group_state.specs.Outcomes.{Reply, Answered, Waits, Outcome, answered, answered_with, wait}
+use Rattle.cp_group_state.specs.declared.outcome.Reply.{Reply}
+use Rattle.cp_group_state.specs.declared.outcome.Reply.TheVariants.{Answered, Waits}
+use Rattle.cp_group_state.specs.Outcomes.{Outcome, answered, answered_with, wait}
 use Rattle.cp_group_state.specs.LockRules.{on_taken, on_released, lock_rule}
 use Rattle.cp_group_state.specs.SemaphoreRules.{on_sem, sem_wait, is_acquire, is_behind, sem_rule}
 use Rattle.cp_group_state.specs.LatchRules.{latch_wait, on_latch, latch_rule}
@@ -80,11 +88,11 @@ good-wait call w (wish.Within ms) s f e there h = either (GoodOutcome call) (ms 
 
 -- ---- locks
 
-good-taken : (call : Invocation) (w : Waiter) (x : Wish) (taken : Taken) (s : GroupState) → TakenFits taken → WaiterFits w → w.call ≡ call → HasSemaphore s.semaphores.rows w → Good s → GoodOutcome call (on_taken w x taken s)
-good-taken call w x (Fence n) s t f e there h = good-answered call (answer.Fence n) s (fits_fence n t) h
-good-taken call w x (Limit n) s t f e there h = good-answered call (answer.LimitReached n) s (fits_limit n t) h
-good-taken call w x Full s t f e there h = good-answered call (answer.TableFull most) s (fits_table_full most (omega arith)) h
-good-taken call w x Busy s t f e there h = good-wait call w x s f e there h
+good-taken : (call : Invocation) (w : Waiter) (x : Wish) (taken : Option Taken) (s : GroupState) → TakenFits taken → WaiterFits w → w.call ≡ call → HasSemaphore s.semaphores.rows w → Good s → GoodOutcome call (on_taken w x taken s)
+good-taken call w x (Some (Fence n)) s t f e there h = good-answered call (answer.Fence n) s (fits_fence n t) h
+good-taken call w x (Some (Limit n)) s t f e there h = good-answered call (answer.LimitReached n) s (fits_limit n t) h
+good-taken call w x None s t f e there h = good-answered call (answer.TableFull most) s (fits_table_full most (omega arith)) h
+good-taken call w x (Some Busy) s t f e there h = good-wait call w x s f e there h
 
 good-released : (i : ℕ) (call : Invocation) (n : List ℕ) (released : Released) (s : GroupState) → index.Fits i → (released ≡ Freed → Handed s.locks n) → Good s → GoodOutcome call (on_released i n released s)
 good-released i call n Freed s f there h = good-answered_with call answer.Ok _ fits_ok (good-hand_over i n s f (there refl) h)
@@ -128,7 +136,7 @@ good-sem_wait call key (sem.Reduce session n) s c f k p there h = good-answered 
 good-on_sem : (call : Invocation) (key : Object) (waits : Outcome) (r : SemOutcome) (s : GroupState) → SemSays r → (r ≡ semaphore.Wants → GoodOutcome call waits) → Good s → GoodOutcome call (on_sem key waits r s)
 good-on_sem call key waits (semaphore.Done a) s f w h = good-answered call a s f h
 good-on_sem call key waits semaphore.Wants s f w h = w refl
-good-on_sem call key waits (semaphore.Served a) s f w h = good-answered_with call a _ f (good-serve key s h)
+good-on_sem call key waits (semaphore.Served a available) s f w h = good-answered_with call a _ f (good-serve key s h)
 
 middle : (a b c : Bool) → (a && (b && c)) ≡ true → b ≡ true
 middle true true c e = refl

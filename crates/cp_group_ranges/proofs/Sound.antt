@@ -24,7 +24,8 @@ use Rattle.cp_group_state.specs.Semaphores.{is_held}
 use Rattle.cp_group_state.specs.GroupState.{GroupState, empty}
 use Rattle.cp_group_state.specs.Changes.{Change, stay}
 use Rattle.cp_group_state.specs.Closing.{close}
-use Rattle.cp_group_state.specs.Outcomes.{Reply, Answered, Waits}
+use Rattle.cp_group_state.specs.declared.outcome.Reply.{Reply}
+use Rattle.cp_group_state.specs.declared.outcome.Reply.TheVariants.{Answered, Waits}
 use Rattle.cp_group_state.specs.Protected.{session_in}
 use Rattle.cp_group_state.specs.Apply.{Applied, told, changed, members_answer, outcome, remembered, settle, settle_wait, join, perform, give_again, by_memory, by_session, supersede, is_elsewhere, apply_call, apply, run}
 use Rattle.cp_group_state.specs.History.{History}

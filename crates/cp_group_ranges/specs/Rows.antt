@@ -1,6 +1,7 @@
 -- Which rows of a group's lists have a spelling.
 use Rattle.std.specs.Prelude.{◌≡◌, ℕ, ◌-◌, ◌^◌, ◌≤◌, ℤ, pos, neg_ℤ, ◌≤ℤ◌, Bool, true, false, List, Option}
 use Rattle.std.specs.List.{AllByRecursion}
+use Rattle.cp_base.specs.declared.limits.TheConstants.{MOST_COUNT}
 use Rattle.cp_base.specs.declared.identifier.Invocation.{Invocation}
 use Rattle.cp_grammar.specs.Fields.{byte, at_least, signed, optional}
 use Rattle.cp_grammar.specs.Common.{index, name, thread_no, client_id, invocation}
@@ -63,7 +64,7 @@ pub record HoldingFits (e : (ℕ × List ℕ) × ℕ) : Type 0 where
 pub record LatchFits (e : List ℕ × LatchRow) : Type 0 where
   pub name : name.Fits e.0
   pub round : index.Fits e.1.round
-  pub count : e.1.count ≤ 10000
+  pub count : e.1.count ≤ MOST_COUNT
   pub counted : AllByRecursion invocation.Fits e.1.counted
 
 pub record LongFits (e : List ℕ × ℤ) : Type 0 where

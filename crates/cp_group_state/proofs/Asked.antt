@@ -30,7 +30,7 @@ use Rattle.cp_group_state.specs.Rows.{Object, find, has_room, most, object_cmp, 
 use Rattle.cp_group_state.specs.Waiters.{Waiter, Ended, stands}
 use Rattle.cp_group_state.specs.Memory.{MemoryRow, has_memory}
 use Rattle.cp_group_state.specs.Sessions.{SessionRow, session_of, unchanged_since, is_open_for}
-use Rattle.cp_group_state.specs.Locks.{LockRow, Taken, Fence, Limit, Full, Busy, Released, Freed, Kept, NotOwner}
+use Rattle.cp_group_state.specs.Locks.{LockRow, Taken, Fence, Limit, Busy, Released, Freed, Kept, NotOwner}
 use Rattle.cp_group_state.specs.Semaphores.{SemOutcome, sem_step}
 use Rattle.cp_group_state.specs.Semaphores as semaphore
 use Rattle.cp_group_state.specs.Latches.{LatchOutcome, latch_step}
@@ -62,11 +62,11 @@ names-wait : (ob : Option Object) (w : Waiter) (x : Wish) (s : GroupState) → o
 names-wait ob w wish.NoLimit s h = h
 names-wait ob w (wish.Within ms) s h = either (λ (r : Outcome). NamesIt ob r.reply) (ms == 0) _ _ tt h
 
-names-taken : (ob : Option Object) (w : Waiter) (x : Wish) (t : Taken) (s : GroupState) → ob ≡ Some (w.name, w.kind) → NamesIt ob (on_taken w x t s).reply
-names-taken ob w x (Fence f) s h = tt
-names-taken ob w x (Limit n) s h = tt
-names-taken ob w x Full s h = tt
-names-taken ob w x Busy s h = names-wait ob w x s h
+names-taken : (ob : Option Object) (w : Waiter) (x : Wish) (t : Option Taken) (s : GroupState) → ob ≡ Some (w.name, w.kind) → NamesIt ob (on_taken w x t s).reply
+names-taken ob w x (Some (Fence f)) s h = tt
+names-taken ob w x (Some (Limit n)) s h = tt
+names-taken ob w x None s h = tt
+names-taken ob w x (Some Busy) s h = names-wait ob w x s h
 
 names-released : (i : ℕ) (ob : Option Object) (name : List ℕ) (r : Released) (s : GroupState) → NamesIt ob (on_released i name r s).reply
 names-released i ob name Freed s = tt
@@ -90,7 +90,7 @@ names-sem_wait call key (sem.Reduce session n) s = tt
 names-on_sem : (call : Invocation) (key : Object) (l : SemOp) (r : SemOutcome) (s t : GroupState) → NamesIt (Some key) (on_sem key (sem_wait call key l s) r t).reply
 names-on_sem call key l (semaphore.Done a) s t = tt
 names-on_sem call key l semaphore.Wants s t = names-sem_wait call key l s
-names-on_sem call key l (semaphore.Served a) s t = tt
+names-on_sem call key l (semaphore.Served a available) s t = tt
 
 names-sem : (call : Invocation) (key : Object) (l : SemOp) (s : GroupState) → NamesIt (Some key) (sem_rule call key l s).reply
 names-sem call key l s = either (λ (r : Outcome). NamesIt (Some key) r.reply) (is_behind key l s) _ _ (names-sem_wait call key l s) (names-on_sem call key l (sem_step key l s.semaphores).outcome s (record s { semaphores = (sem_step key l s.semaphores).after }))

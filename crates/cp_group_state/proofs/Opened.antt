@@ -30,7 +30,7 @@ use Rattle.cp_group_state.specs.Rows.{find, put, has_room, most, object_cmp}
 use Rattle.cp_group_state.specs.Waiters.{Waiter, stands}
 use Rattle.cp_group_state.specs.Memory.{MemoryRow, has_memory}
 use Rattle.cp_group_state.specs.Sessions.{SessionRow, is_of, is_open_for, is_among, beaten, session_of, unchanged_since}
-use Rattle.cp_group_state.specs.Locks.{Taken, Fence, Limit, Full, Busy, Released, Freed, Kept, NotOwner}
+use Rattle.cp_group_state.specs.Locks.{Taken, Fence, Limit, Busy, Released, Freed, Kept, NotOwner}
 use Rattle.cp_group_state.specs.Semaphores.{sem_step, SemOutcome}
 use Rattle.cp_group_state.specs.Semaphores as semaphore
 use Rattle.cp_group_state.specs.Latches.{LatchOutcome, latch_step}
@@ -95,11 +95,11 @@ quiet-wait : (w : Waiter) (x : Wish) (s : GroupState) → IsQuiet s.sessions (wa
 quiet-wait w wish.NoLimit s = refl
 quiet-wait w (wish.Within ms) s = either (IsQuiet s.sessions) (ms == 0) _ _ tt refl
 
-quiet-taken : (w : Waiter) (x : Wish) (t : Taken) (s : GroupState) → IsQuiet s.sessions (on_taken w x t s)
-quiet-taken w x (Fence f) s = tt
-quiet-taken w x (Limit n) s = tt
-quiet-taken w x Full s = tt
-quiet-taken w x Busy s = quiet-wait w x s
+quiet-taken : (w : Waiter) (x : Wish) (t : Option Taken) (s : GroupState) → IsQuiet s.sessions (on_taken w x t s)
+quiet-taken w x (Some (Fence f)) s = tt
+quiet-taken w x (Some (Limit n)) s = tt
+quiet-taken w x None s = tt
+quiet-taken w x (Some Busy) s = quiet-wait w x s
 
 quiet-released : (i : ℕ) (name : List ℕ) (r : Released) (s : GroupState) → IsQuiet s.sessions (on_released i name r s)
 quiet-released i name Freed s = tt
@@ -123,7 +123,7 @@ quiet-sem_wait call key (sem.Reduce session n) s = tt
 quiet-on_sem : (call : Invocation) (key : List ℕ × Kind) (l : SemOp) (r : SemOutcome) (s t : GroupState) → IsQuiet s.sessions (on_sem key (sem_wait call key l s) r t)
 quiet-on_sem call key l (semaphore.Done a) s t = tt
 quiet-on_sem call key l semaphore.Wants s t = quiet-sem_wait call key l s
-quiet-on_sem call key l (semaphore.Served a) s t = tt
+quiet-on_sem call key l (semaphore.Served a available) s t = tt
 
 quiet-sem : (call : Invocation) (key : List ℕ × Kind) (l : SemOp) (s : GroupState) → IsQuiet s.sessions (sem_rule call key l s)
 quiet-sem call key l s = either (IsQuiet s.sessions) (is_behind key l s) _ _ (quiet-sem_wait call key l s) (quiet-on_sem call key l (sem_step key l s.semaphores).outcome s (record s { semaphores = (sem_step key l s.semaphores).after }))

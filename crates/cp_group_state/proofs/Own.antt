@@ -35,7 +35,7 @@ use Rattle.cp_ops.specs.declared.op.Op.TheVariants as op
 use Rattle.cp_group_state.specs.Rows.{find, put, has_room, most, name_cmp, object_cmp}
 use Rattle.cp_group_state.specs.Waiters.{Waiter, Ended, waits_on}
 use Rattle.cp_group_state.specs.Sessions.{SessionRow, session_of}
-use Rattle.cp_group_state.specs.Locks.{LockRow, Taken, Fence, Limit, Full, Busy, Released, Freed, Kept, NotOwner, Acquired, lock_at, is_free, is_held_by, held_once, most_holds, acquired, released_by}
+use Rattle.cp_group_state.specs.Locks.{LockRow, Taken, Fence, Limit, Busy, Released, Freed, Kept, NotOwner, Acquired, lock_at, is_free, is_held_by, held_once, most_holds, acquired, released_by}
 use Rattle.cp_group_state.specs.Semaphores.{SemaphoreRow, Semaphores, SemStep, SemOutcome, is_held, held, sem_step, sem_step_on, raise_total, release_held, at_least_none, served}
 use Rattle.cp_group_state.specs.Semaphores as semaphore
 use Rattle.cp_group_state.specs.Latches.{LatchRow, LatchStep, LatchOutcome, latch_at, latch_step, is_over, counted_calls, most_counted}
@@ -121,14 +121,14 @@ module _ (Asked : List ℕ → ℕ → Type 0) (Names : List ℕ → Type 0) whe
   wait-stands call w (wish.Within ms) s = either (OutcomeStands call) (ms == 0) _ _ (plain call answer.TimedOut s tt) (none-ended s.locks, tt)
 
   -- locks
-  abbrev pub TakenStands : List ℕ → Holder → List (List ℕ × LockRow) → Taken → Type 0
-  TakenStands name who rows (Fence f) = (is_free (lock_at rows name) ≡ false) × ((lock_at rows name).holder ≡ who) × ((lock_at rows name).fence ≡ f)
+  abbrev pub TakenStands : List ℕ → Holder → List (List ℕ × LockRow) → Option Taken → Type 0
+  TakenStands name who rows (Some (Fence f)) = (is_free (lock_at rows name) ≡ false) × ((lock_at rows name).holder ≡ who) × ((lock_at rows name).fence ≡ f)
   TakenStands name who rows taken = Unit {0}
 
   lock-put : (rows : List (List ℕ × LockRow)) (name : List ℕ) (row : LockRow) → lock_at (put name_cmp rows name row) name ≡ row
   lock-put rows name row = rw (find-put_same name_cmp name_key rows name row)
 
-  put-stands : (rows : List (List ℕ × LockRow)) (name : List ℕ) (row : LockRow) (who : Holder) → is_free row ≡ false → row.holder ≡ who → TakenStands name who (put name_cmp rows name row) (Fence row.fence)
+  put-stands : (rows : List (List ℕ × LockRow)) (name : List ℕ) (row : LockRow) (who : Holder) → is_free row ≡ false → row.holder ≡ who → TakenStands name who (put name_cmp rows name row) (Some (Fence row.fence))
   put-stands rows name row who f t = (rw (lock-put rows name row) f, rw (lock-put rows name row) t, rw (lock-put rows name row))
 
   one-more : (n : ℕ) → (n + 1 == 0) ≡ false
@@ -161,11 +161,11 @@ module _ (Asked : List ℕ → ℕ → Type 0) (Names : List ℕ → Type 0) whe
       (put-stands rows name (record row { holds = row.holds + 1 }) who (one-more row.holds) (held-who who row e)) tt)
       (λ e. tt))
 
-  taken-stands : (call : Invocation) (name : List ℕ) (session : ℕ) (w : Waiter) (x : Wish) (t : Taken) (s : GroupState) → Asked name session → TakenStands name (record { session = session; thread = call.thread }) s.locks t → OutcomeStands call (on_taken w x t s)
-  taken-stands call name session w x (Fence f) s r h = (none-ended s.locks, (name, session, r, h.0, h.1, h.2))
-  taken-stands call name session w x (Limit n) s r h = plain call (answer.LimitReached n) s tt
-  taken-stands call name session w x Full s r h = plain call (answer.TableFull most) s tt
-  taken-stands call name session w x Busy s r h = wait-stands call w x s
+  taken-stands : (call : Invocation) (name : List ℕ) (session : ℕ) (w : Waiter) (x : Wish) (t : Option Taken) (s : GroupState) → Asked name session → TakenStands name (record { session = session; thread = call.thread }) s.locks t → OutcomeStands call (on_taken w x t s)
+  taken-stands call name session w x (Some (Fence f)) s r h = (none-ended s.locks, (name, session, r, h.0, h.1, h.2))
+  taken-stands call name session w x (Some (Limit n)) s r h = plain call (answer.LimitReached n) s tt
+  taken-stands call name session w x None s r h = plain call (answer.TableFull most) s tt
+  taken-stands call name session w x (Some Busy) s r h = wait-stands call w x s
 
   released-stands : (i : ℕ) (call : Invocation) (name : List ℕ) (r : Released) (s : GroupState) → OutcomeStands call (on_released i name r s)
   released-stands i call name Freed s = (stand-hand_over i name s, tt)
@@ -185,7 +185,7 @@ module _ (Asked : List ℕ → ℕ → Type 0) (Names : List ℕ → Type 0) whe
   abbrev pub SemPlain : SemOutcome → Type 0
   SemPlain (semaphore.Done a) = NoFence a
   SemPlain semaphore.Wants = Unit {0}
-  SemPlain (semaphore.Served a) = NoFence a
+  SemPlain (semaphore.Served a available) = NoFence a
 
   step-plain : (key : List ℕ × Kind) (o : SemOp) (row : Option SemaphoreRow) (s : Semaphores) → SemPlain (sem_step_on key o row s).outcome
   step-plain key sem.Available None s = tt
@@ -216,7 +216,7 @@ module _ (Asked : List ℕ → ℕ → Type 0) (Names : List ℕ → Type 0) whe
   on_sem-stands : (call : Invocation) (key : List ℕ × Kind) (l : SemOp) (r : SemOutcome) (s t : GroupState) → SemPlain r → OutcomeStands call (on_sem key (sem_wait call key l s) r t)
   on_sem-stands call key l (semaphore.Done a) s t h = plain call a t h
   on_sem-stands call key l semaphore.Wants s t h = sem_wait-stands call key l s
-  on_sem-stands call key l (semaphore.Served a) s t h = (quiet-stand (serve key t).state.locks (serve key t).ended (quiet-serve_from key (find object_cmp t.semaphores.rows key) t).0, no-own (serve key t).state.locks call.thread a h)
+  on_sem-stands call key l (semaphore.Served a available) s t h = (quiet-stand (serve key t).state.locks (serve key t).ended (quiet-serve_from key (find object_cmp t.semaphores.rows key) t).0, no-own (serve key t).state.locks call.thread a h)
 
   sem-stands : (call : Invocation) (key : List ℕ × Kind) (l : SemOp) (s : GroupState) → OutcomeStands call (sem_rule call key l s)
   sem-stands call key l s = either (OutcomeStands call) (is_behind key l s) _ _ (sem_wait-stands call key l s)

@@ -30,7 +30,7 @@ use Rattle.cp_group_state.specs.Rows.{find, holder_cmp, object_cmp, most, has_ro
 use Rattle.cp_group_state.specs.Waiters.{Waiter, Ended, stands}
 use Rattle.cp_group_state.specs.Memory.{MemoryRow, remember, note, note_at, note_all, has_memory}
 use Rattle.cp_group_state.specs.Sessions.{SessionRow, is_of, is_open_for, is_among, session_of, unchanged_since}
-use Rattle.cp_group_state.specs.Locks.{Taken, Fence, Limit, Full, Busy, Released, Freed, Kept, NotOwner}
+use Rattle.cp_group_state.specs.Locks.{Taken, Fence, Limit, Busy, Released, Freed, Kept, NotOwner}
 use Rattle.cp_group_state.specs.Semaphores.{sem_step, SemOutcome}
 use Rattle.cp_group_state.specs.Semaphores as semaphore
 use Rattle.cp_group_state.specs.Latches.{LatchOutcome, latch_step}
@@ -193,11 +193,11 @@ own-wait : (call : Invocation) (so : Option ℕ) (w : Waiter) (x : Wish) (s : Gr
 own-wait call so w wish.NoLimit s c h = (c, h)
 own-wait call so w (wish.Within ms) s c h = either (λ (r : Outcome). IsOwnWait call so r.reply) (ms == 0) _ _ tt (c, h)
 
-own-taken : (call : Invocation) (so : Option ℕ) (w : Waiter) (x : Wish) (t : Taken) (s : GroupState) → w.call ≡ call → so ≡ memory_of w → IsOwnWait call so (on_taken w x t s).reply
-own-taken call so w x (Fence f) s c h = tt
-own-taken call so w x (Limit n) s c h = tt
-own-taken call so w x Full s c h = tt
-own-taken call so w x Busy s c h = own-wait call so w x s c h
+own-taken : (call : Invocation) (so : Option ℕ) (w : Waiter) (x : Wish) (t : Option Taken) (s : GroupState) → w.call ≡ call → so ≡ memory_of w → IsOwnWait call so (on_taken w x t s).reply
+own-taken call so w x (Some (Fence f)) s c h = tt
+own-taken call so w x (Some (Limit n)) s c h = tt
+own-taken call so w x None s c h = tt
+own-taken call so w x (Some Busy) s c h = own-wait call so w x s c h
 
 own-released : (i : ℕ) (call : Invocation) (so : Option ℕ) (name : List ℕ) (r : Released) (s : GroupState) → IsOwnWait call so (on_released i name r s).reply
 own-released i call so name Freed s = tt
@@ -221,7 +221,7 @@ own-sem_wait call so key (sem.Reduce session n) s h = tt
 own-on_sem : (call : Invocation) (so : Option ℕ) (key : List ℕ × Kind) (l : SemOp) (r : SemOutcome) (s t : GroupState) → ((session n : ℕ) (x : Wish) → l ≡ sem.Acquire session n x → so ≡ (if has_memory key.1 then Some session else None)) → IsOwnWait call so (on_sem key (sem_wait call key l s) r t).reply
 own-on_sem call so key l (semaphore.Done a) s t h = tt
 own-on_sem call so key l semaphore.Wants s t h = own-sem_wait call so key l s h
-own-on_sem call so key l (semaphore.Served a) s t h = tt
+own-on_sem call so key l (semaphore.Served a available) s t h = tt
 
 own-sem : (call : Invocation) (so : Option ℕ) (key : List ℕ × Kind) (l : SemOp) (s : GroupState) → ((session n : ℕ) (x : Wish) → l ≡ sem.Acquire session n x → so ≡ (if has_memory key.1 then Some session else None)) → IsOwnWait call so (sem_rule call key l s).reply
 own-sem call so key l s h = either (λ (r : Outcome). IsOwnWait call so r.reply) (is_behind key l s) _ _ (own-sem_wait call so key l s h) (own-on_sem call so key l (sem_step key l s.semaphores).outcome s (record s { semaphores = (sem_step key l s.semaphores).after }) h)

@@ -32,7 +32,7 @@ use Rattle.cp_group_state.specs.Rows.{find, put, has_room, most, name_cmp, objec
 use Rattle.cp_group_state.specs.Waiters.{Waiter, Ended, answered_by, ending, first, waits_on, same_call, stands}
 use Rattle.cp_group_state.specs.Sessions.{SessionRow, beaten, session_of, is_open_for, is_among}
 use Rattle.cp_group_state.specs.Memory.{MemoryRow, remember}
-use Rattle.cp_group_state.specs.Locks.{Taken, Fence, Limit, Full, Busy, Released, Freed, Kept, NotOwner, acquired, released_by, held_once}
+use Rattle.cp_group_state.specs.Locks.{Taken, Fence, Limit, Busy, Released, Freed, Kept, NotOwner, acquired, released_by, held_once}
 use Rattle.cp_group_state.specs.Semaphores.{Semaphores, SemaphoreRow, SemOutcome, sem_step, served, take_all}
 use Rattle.cp_group_state.specs.Semaphores as semaphore
 use Rattle.cp_group_state.specs.Latches.{LatchOutcome}
@@ -141,11 +141,11 @@ module _ (i : ℕ) (R : GroupState → Change → Type 0) (k : Closed i R) where
   walk_wait w wish.NoLimit s = k.stays s
   walk_wait w (wish.Within ms) s = either (λ (o : Outcome). R s o.change) (ms == 0) _ _ (k.stays s) (k.stays s)
 
-  walk_on_taken : (w : Waiter) (wish : Wish) (taken : Taken) (s : GroupState) → R s (on_taken w wish taken s).change
-  walk_on_taken w wish (Fence f) s = k.stays s
-  walk_on_taken w wish (Limit n) s = k.stays s
-  walk_on_taken w wish Full s = k.stays s
-  walk_on_taken w wish Busy s = walk_wait w wish s
+  walk_on_taken : (w : Waiter) (wish : Wish) (taken : Option Taken) (s : GroupState) → R s (on_taken w wish taken s).change
+  walk_on_taken w wish (Some (Fence f)) s = k.stays s
+  walk_on_taken w wish (Some (Limit n)) s = k.stays s
+  walk_on_taken w wish None s = k.stays s
+  walk_on_taken w wish (Some Busy) s = walk_wait w wish s
 
   walk_on_released : (name : List ℕ) (released : Released) (s : GroupState) → R s (on_released i name released s).change
   walk_on_released name Freed s = walk_hand_over name s
@@ -169,7 +169,7 @@ module _ (i : ℕ) (R : GroupState → Change → Type 0) (k : Closed i R) where
   walk_on_sem : (key : List ℕ × Kind) (call : Invocation) (o : SemOp) (r : SemOutcome) (s : GroupState) → R s (on_sem key (sem_wait call key o s) r (record s { semaphores = (sem_step key o s.semaphores).after })).change
   walk_on_sem key call o (semaphore.Done a) s = k.permits s _ key o (k.stays _)
   walk_on_sem key call o semaphore.Wants s = walk_sem_wait call key o s
-  walk_on_sem key call o (semaphore.Served a) s = k.permits s _ key o (walk_serve key (record s { semaphores = (sem_step key o s.semaphores).after }))
+  walk_on_sem key call o (semaphore.Served a available) s = k.permits s _ key o (walk_serve key (record s { semaphores = (sem_step key o s.semaphores).after }))
 
   walk_sem : (call : Invocation) (key : List ℕ × Kind) (o : SemOp) (s : GroupState) → R s (sem_rule call key o s).change
   walk_sem call key o s = either (λ (r : Outcome). R s r.change) (is_behind key o s) _ _ (walk_sem_wait call key o s)

@@ -134,7 +134,9 @@ time_out call s = end_all (λ w. same_call call w.call) (λ w. answer.TimedOut) 
 
 -- a group that is destroyed stays so, under its first number
 abbrev pub destroy_group : GroupId → GroupState → Change
-destroy_group group s = end_all (λ w. true) (λ w. answer.GroupDestroyed group) (record s { destroyed_group = if s.destroyed_group.0 == 0 then group else s.destroyed_group })
+destroy_group group s =
+    end_all (λ w. true) (λ w. answer.GroupDestroyed group)
+    (record s { destroyed_group = if s.destroyed_group.0 == 0 then group else s.destroyed_group })
 
 abbrev pub members_answer : Option Invocation → List (Invocation × Answer)
 members_answer None = []

@@ -30,7 +30,8 @@ is_held_by_some sessions s key = is_held key.1 && list_any (λ e. is_among sessi
 
 -- the semaphores of which these sessions hold permits, or on which they waited
 abbrev pub concerned : List ℕ → List Ended → GroupState → List Object
-concerned sessions ended s = filter (λ key. is_held_by_some sessions s key || list_any (λ e. waits_on key.1 key.0 e.waiter) ended) (keys_of s.semaphores.rows)
+concerned sessions ended s =
+    filter (λ key. is_held_by_some sessions s key || list_any (λ e. waits_on key.1 key.0 e.waiter) ended) (keys_of s.semaphores.rows)
 
 -- their waiters end
 abbrev pub end_sessions : List ℕ → GroupState → Change

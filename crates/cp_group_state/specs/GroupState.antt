@@ -27,4 +27,16 @@ pub record GroupState : Type 0 where
   pub memory : List ((ℕ × ℕ) × MemoryRow)
 
 abbrev pub empty : GroupState
-empty = record { destroyed_group = record { 0 = 0 }; sessions = []; locks = []; semaphores = record { rows = []; holdings = [] }; latches = []; longs = []; refs = []; maps = []; gone = []; waiters = []; memory = [] }
+empty = record {
+  destroyed_group = record { 0 = 0 };
+  sessions = [];
+  locks = [];
+  semaphores = record { rows = []; holdings = [] };
+  latches = [];
+  longs = [];
+  refs = [];
+  maps = [];
+  gone = [];
+  waiters = [];
+  memory = [];
+}

@@ -14,7 +14,9 @@ use Rattle.cp_group_state.specs.Changes.{end_all}
 use Rattle.cp_group_state.specs.Outcomes.{Outcome, answered, answered_with, wait}
 
 abbrev pub latch_wait : Invocation → List ℕ → LatchOp → GroupState → Outcome
-latch_wait call name (latch.Await millis) s = wait (record { call = call; kind = kind.Latch; name = name; session = 0; permits = 0; wish = wish.Within millis }) (wish.Within millis) s
+latch_wait call name (latch.Await millis) s =
+    wait (record { call = call; kind = kind.Latch; name = name; session = 0; permits = 0; wish = wish.Within millis })
+    (wish.Within millis) s
 latch_wait call name op s = answered answer.Ok s
 
 abbrev pub on_latch : Invocation → List ℕ → LatchOp → LatchOutcome → GroupState → Outcome

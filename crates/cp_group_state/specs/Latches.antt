@@ -1,7 +1,8 @@
 -- Countdown latches in rounds.
-use Rattle.std.specs.Prelude.{ℕ, ◌+◌, ◌-◌, ◌^◌, pos, Bool, true, false, not, ◌||◌, ◌==◌, List, [], ◌∷◌, ◌++◌, length, map, min, sum, Option, Some, None, if◌then◌else◌, nat_lt}
+use Rattle.std.specs.Prelude.{ℕ, ◌+◌, ◌-◌, pos, Bool, true, false, not, ◌||◌, ◌==◌, List, [], ◌∷◌, ◌++◌, length, map, min, sum, Option, Some, None, if◌then◌else◌, nat_lt}
 use Rattle.std.specs.List.{list_any}
 use Rattle.cp_base.specs.declared.identifier.Invocation.{Invocation}
+use Rattle.cp_base.specs.declared.limits.TheConstants.{LAST_NUMBER, MOST_COUNTED}
 use Rattle.cp_answers.specs.declared.answer.Answer.{Answer}
 use Rattle.cp_answers.specs.declared.answer.Answer.TheVariants as answer
 use Rattle.cp_object_ops.specs.declared.latch_op.LatchOp.{LatchOp}
@@ -9,6 +10,8 @@ use Rattle.cp_object_ops.specs.declared.latch_op.LatchOp.TheVariants as latch
 use Rattle.cp_group_state.specs.Rows.{Named, find, put, has_room, most, name_cmp}
 use Rattle.cp_group_state.specs.Waiters.{same_call}
 pub use Rattle.cp_group_state.specs.declared.rows.LatchRow.{LatchRow}
+pub use Rattle.cp_group_state.specs.declared.outcome.LatchOutcome.{LatchOutcome}
+pub use Rattle.cp_group_state.specs.declared.outcome.LatchOutcome.TheVariants.{Done, Wants, Opened}
 
 abbrev pub new_latch : LatchRow
 new_latch = record { round = 0; count = 0; counted = [] }
@@ -28,20 +31,15 @@ abbrev pub counted_calls : Named LatchRow → ℕ
 counted_calls rows = sum (map (λ e. length e.1.counted) rows)
 
 abbrev pub most_counted : ℕ
-most_counted = 100000
+most_counted = MOST_COUNTED
 
--- what a call leads to: an answer, a wait, or an answer with which the latch opens
-pub data LatchOutcome : Type 0 where
-  Done : Answer → LatchOutcome
-  Wants : LatchOutcome
-  Opened : LatchOutcome
-
+-- the rows after a call, and what it leads to
 pub record LatchStep : Type 0 where
   pub after : Named LatchRow
   pub outcome : LatchOutcome
 
 abbrev pub next_round : LatchRow → ℕ → LatchRow
-next_round row n = record { round = min (row.round + 1) (2 ^ 62); count = n; counted = [] }
+next_round row n = record { round = min (row.round + 1) LAST_NUMBER; count = n; counted = [] }
 
 abbrev pub set_latch : Named LatchRow → List ℕ → LatchRow → ℕ → LatchStep
 set_latch rows name row n = if row.count == 0
@@ -69,7 +67,8 @@ latch_step_at rows name call latch.Count row = record { after = rows; outcome = 
 latch_step_at rows name call latch.Round row = record { after = rows; outcome = Done (answer.Value (pos row.round)) }
 latch_step_at rows name call (latch.Set n) row = set_latch rows name row n
 latch_step_at rows name call (latch.Down round) row = count_down rows name call round row
-latch_step_at rows name call (latch.Await millis) row = record { after = rows; outcome = if row.count == 0 then Done (answer.Bool true) else Wants }
+latch_step_at rows name call (latch.Await millis) row =
+    record { after = rows; outcome = if row.count == 0 then Done (answer.Bool true) else Wants }
 
 abbrev pub latch_step : Named LatchRow → List ℕ → Invocation → LatchOp → LatchStep
 latch_step rows name call op = latch_step_at rows name call op (latch_at rows name)

@@ -23,7 +23,8 @@ remember rows session thread number answer = put holder_cmp rows (session, threa
 
 abbrev pub note_at : List ((ℕ × ℕ) × MemoryRow) → Ended → Option MemoryRow → List ((ℕ × ℕ) × MemoryRow)
 note_at rows e None = rows
-note_at rows e (Some row) = if row.number == e.waiter.call.number then remember rows e.waiter.session e.waiter.call.thread row.number (Some e.answer) else rows
+note_at rows e (Some row) =
+    if row.number == e.waiter.call.number then remember rows e.waiter.session e.waiter.call.thread row.number (Some e.answer) else rows
 
 -- the row of a waiter that ended holds its answer
 abbrev pub note : List ((ℕ × ℕ) × MemoryRow) → Ended → List ((ℕ × ℕ) × MemoryRow)

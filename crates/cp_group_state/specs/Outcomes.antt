@@ -7,12 +7,10 @@ use Rattle.cp_answers.specs.declared.answer.Answer.TheVariants as answer
 use Rattle.cp_group_state.specs.Waiters.{Waiter}
 use Rattle.cp_group_state.specs.GroupState.{GroupState}
 use Rattle.cp_group_state.specs.Changes.{Change, stay}
+pub use Rattle.cp_group_state.specs.declared.outcome.Reply.{Reply}
+pub use Rattle.cp_group_state.specs.declared.outcome.Reply.TheVariants.{Answered, Waits}
 
--- What the rule of an op leads to: an answer of its own, or a wait.
-pub data Reply : Type 0 where
-  Answered : Answer → Reply
-  Waits : Waiter → Reply
-
+-- what the rule of an op changes, and what it answers: an answer of its own, or a wait
 pub record Outcome : Type 0 where
   pub change : Change
   pub reply : Reply

@@ -45,13 +45,15 @@ settled_by e step = []
 
 -- an entry of a call that was seen is a repeat
 abbrev pub without_repeat : List Invocation → Entry → EntryOrRepeat
-without_repeat seen (entry.Call call o) = if is_protected o && list_any (same_call call) seen then Repeat call o else Itself (entry.Call call o)
+without_repeat seen (entry.Call call o) =
+    if is_protected o && list_any (same_call call) seen then Repeat call o else Itself (entry.Call call o)
 without_repeat seen e = Itself e
 
 -- the entries from this index on, where these calls were seen before
 abbrev pub without_repeats_from : ℕ → List Invocation → List Entry → GroupState → List EntryOrRepeat
 without_repeats_from index seen [] s = []
-without_repeats_from index seen (e ∷ es) s = without_repeat seen e ∷ without_repeats_from (index + 1) (settled_by e (apply index e s) ++ seen) es (apply index e s).state
+without_repeats_from index seen (e ∷ es) s =
+    without_repeat seen e ∷ without_repeats_from (index + 1) (settled_by e (apply index e s) ++ seen) es (apply index e s).state
 
 -- A history in which each later entry of a protected call is a repeat. A countdown that was refused, since too many calls
 -- were counted, may still count at its next entry.

@@ -5,6 +5,7 @@ use Rattle.std.specs.Ordering.{nat_cmp, ordering_then}
 use Rattle.std.specs.Cmp.Lexicographic.{slice_cmp}
 use Rattle.std.specs.BTreeMap.{insert_entry, is_at}
 use Rattle.std.specs.Map.{lookup, remove_entry}
+use Rattle.cp_base.specs.declared.limits.TheConstants.{MOST_ROWS}
 use Rattle.cp_op_values.specs.declared.kind.Kind.{Kind}
 use Rattle.cp_op_values.specs.declared.kind.Kind.TheVariants as kind
 
@@ -27,7 +28,7 @@ module _ {K X : Type 0} (cmp : K → K → Ordering) where
 
 -- the limit of sessions, waiters, destroyed names and of each kind's rows
 abbrev pub most : ℕ
-most = 10000
+most = MOST_ROWS
 
 -- rows under names
 abbrev pub Named : Type 0 → Type 0

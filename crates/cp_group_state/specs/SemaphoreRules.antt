@@ -15,10 +15,11 @@ use Rattle.cp_group_state.specs.Outcomes.{Outcome, answered, answered_with, wait
 abbrev pub on_sem : Object → Outcome → SemOutcome → GroupState → Outcome
 on_sem key waits (semaphore.Done a) s = answered a s
 on_sem key waits semaphore.Wants s = waits
-on_sem key waits (semaphore.Served a) s = answered_with a (serve key s)
+on_sem key waits (semaphore.Served a available) s = answered_with a (serve key s)
 
 abbrev pub sem_wait : Invocation → Object → SemOp → GroupState → Outcome
-sem_wait call key (sem.Acquire session n wish) s = wait (record { call = call; kind = key.1; name = key.0; session = session; permits = n; wish = wish }) wish s
+sem_wait call key (sem.Acquire session n wish) s =
+    wait (record { call = call; kind = key.1; name = key.0; session = session; permits = n; wish = wish }) wish s
 sem_wait call key op s = answered answer.NotInitialized s
 
 abbrev pub is_acquire : SemOp → Bool

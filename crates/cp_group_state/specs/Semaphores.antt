@@ -1,6 +1,7 @@
 -- Semaphores: those whose permits a session holds, and those without sessions.
 use Rattle.std.specs.Prelude.{ℕ, ◌+◌, ◌-◌, ◌^◌, ℤ, pos, negsuc, neg_ℤ, ◌+ℤ◌, ◌-ℤ◌, int_lt, Bool, true, false, not, ◌&&◌, ◌==◌, List, [], ◌∷◌, map, sum, Option, Some, None, if◌then◌else◌, nat_lt, unwrap_or, bytes_eq}
 use Rattle.std.specs.List.{filter}
+use Rattle.cp_base.specs.declared.limits.TheConstants.{MOST_PERMITS}
 use Rattle.cp_op_values.specs.declared.kind.Kind.{Kind}
 use Rattle.cp_op_values.specs.declared.kind.Kind.TheVariants as kind
 use Rattle.cp_answers.specs.declared.answer.Answer.{Answer}
@@ -12,6 +13,8 @@ use Rattle.cp_group_state.specs.Rows.{Object, find, put, without, has_room, most
 use Rattle.cp_group_state.specs.Waiters.{Waiter, waits_on}
 use Rattle.cp_group_state.specs.Sessions.{is_among}
 pub use Rattle.cp_group_state.specs.declared.rows.SemaphoreRow.{SemaphoreRow}
+pub use Rattle.cp_group_state.specs.declared.outcome.SemOutcome.{SemOutcome}
+pub use Rattle.cp_group_state.specs.declared.outcome.SemOutcome.TheVariants.{Done, Wants, Served}
 
 pub record Semaphores : Type 0 where
   pub rows : List (Object × SemaphoreRow)
@@ -32,13 +35,20 @@ held holdings session name = unwrap_or (find holding_cmp holdings (session, name
 
 -- a holding of no permits has no row
 abbrev pub set_held : List ((ℕ × List ℕ) × ℕ) → ℕ → List ℕ → ℕ → List ((ℕ × List ℕ) × ℕ)
-set_held holdings session name n = if n == 0 then without holding_cmp holdings (session, name) else put holding_cmp holdings (session, name) n
+set_held holdings session name n =
+    if n == 0 then without holding_cmp holdings (session, name) else put holding_cmp holdings (session, name) n
 
 -- n permits go from the semaphore to the session; where no session holds them they are gone
 abbrev pub take : Object → SemaphoreRow → ℕ → ℕ → Semaphores → Semaphores
 take key row session n s = if is_held key.1
-    then record { rows = put object_cmp s.rows key (record row { available = row.available -ℤ pos n }); holdings = set_held s.holdings session key.0 (held s.holdings session key.0 + n) }
-    else record { rows = put object_cmp s.rows key (record { total = row.total -ℤ pos n; available = row.available -ℤ pos n }); holdings = s.holdings }
+    then record {
+      rows = put object_cmp s.rows key (record row { available = row.available -ℤ pos n });
+      holdings = set_held s.holdings session key.0 (held s.holdings session key.0 + n);
+    }
+    else record {
+      rows = put object_cmp s.rows key (record { total = row.total -ℤ pos n; available = row.available -ℤ pos n });
+      holdings = s.holdings;
+    }
 
 -- n permits come back from the session
 abbrev pub give_back : Object → SemaphoreRow → ℕ → ℕ → Semaphores → Semaphores
@@ -49,14 +59,12 @@ give_back key row session n s = record {
 
 -- the total changes by n
 abbrev pub change_total : Object → SemaphoreRow → ℤ → Semaphores → Semaphores
-change_total key row n s = record { rows = put object_cmp s.rows key (record { total = row.total +ℤ n; available = row.available +ℤ n }); holdings = s.holdings }
+change_total key row n s = record {
+  rows = put object_cmp s.rows key (record { total = row.total +ℤ n; available = row.available +ℤ n });
+  holdings = s.holdings;
+}
 
--- what a call leads to: an answer, a wait, or permits that came and an answer
-pub data SemOutcome : Type 0 where
-  Done : Answer → SemOutcome
-  Wants : SemOutcome
-  Served : Answer → SemOutcome
-
+-- the rows after a call, and what it leads to; where permits came, also what stands available then
 pub record SemStep : Type 0 where
   pub after : Semaphores
   pub outcome : SemOutcome
@@ -67,18 +75,21 @@ at_least_none (pos n) = n
 at_least_none (negsuc n) = 0
 
 abbrev pub raise_total : Object → SemaphoreRow → ℕ → Semaphores → SemStep
-raise_total key row n s = if int_lt (pos (2 ^ 31 - 1)) (row.total +ℤ pos n)
+raise_total key row n s = if int_lt (pos MOST_PERMITS) (row.total +ℤ pos n)
     then record { after = s; outcome = Done (answer.BadArgument argument.Overflow) }
-    else record { after = change_total key row (pos n) s; outcome = Served answer.Ok }
+    else record { after = change_total key row (pos n) s; outcome = Served answer.Ok (row.available +ℤ pos n) }
 
 abbrev pub release_held : Object → SemaphoreRow → ℕ → ℕ → Semaphores → SemStep
 release_held key row session n s = if nat_lt (held s.holdings session key.0) n
     then record { after = s; outcome = Done (answer.NotHeld (held s.holdings session key.0)) }
-    else record { after = give_back key row session n s; outcome = Served answer.Ok }
+    else record { after = give_back key row session n s; outcome = Served answer.Ok (row.available +ℤ pos n) }
 
 abbrev pub init : Object → ℕ → Semaphores → SemStep
 init key n s = if has_room object_cmp most s.rows key
-    then record { after = record { rows = put object_cmp s.rows key (record { total = pos n; available = pos n }); holdings = s.holdings }; outcome = Done (answer.Bool true) }
+    then record {
+      after = record { rows = put object_cmp s.rows key (record { total = pos n; available = pos n }); holdings = s.holdings };
+      outcome = Done (answer.Bool true);
+    }
     else record { after = s; outcome = Done (answer.TableFull most) }
 
 -- on a semaphore that is there
@@ -89,7 +100,10 @@ sem_step_at key row (sem.Acquire session n wish) s = if int_lt row.available (po
     then record { after = s; outcome = Wants }
     else record { after = take key row session n s; outcome = Done answer.Ok }
 sem_step_at key row (sem.Release session n) s = if is_held key.1 then release_held key row session n s else raise_total key row n s
-sem_step_at key row (sem.Drain session) s = record { after = take key row session (at_least_none row.available) s; outcome = Done (answer.Value (pos (at_least_none row.available))) }
+sem_step_at key row (sem.Drain session) s = record {
+  after = take key row session (at_least_none row.available) s;
+  outcome = Done (answer.Value (pos (at_least_none row.available)));
+}
 sem_step_at key row (sem.Increase session n) s = raise_total key row n s
 sem_step_at key row (sem.Reduce session n) s = if int_lt (row.available -ℤ pos n) (neg_ℤ (pos (2 ^ 31)))
     then record { after = s; outcome = Done (answer.BadArgument argument.Overflow) }

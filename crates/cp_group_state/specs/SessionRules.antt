@@ -15,7 +15,8 @@ use Rattle.cp_group_state.specs.Outcomes.{Outcome, answered, answered_with}
 abbrev pub opened : ℕ → Invocation → Option (ℕ × SessionRow) → GroupState → Outcome
 opened index call (Some e) s = answered (answer.Session e.0) s
 opened index call None s = if has_room nat_cmp most s.sessions index
-    then answered (answer.Session index) (record s { sessions = put nat_cmp s.sessions index (record { client = call.client; version = 0 }) })
+    then answered (answer.Session index)
+    (record s { sessions = put nat_cmp s.sessions index (record { client = call.client; version = 0 }) })
     else answered (answer.TableFull most) s
 
 abbrev pub beat : ℕ → Option SessionRow → GroupState → Outcome

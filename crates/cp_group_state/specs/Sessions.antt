@@ -1,8 +1,9 @@
 -- Sessions by number. A session's number is the index at which it was opened.
-use Rattle.std.specs.Prelude.{ℕ, ◌+◌, ◌^◌, Bool, false, ◌==◌, List, map, min, Option, Some, None}
+use Rattle.std.specs.Prelude.{ℕ, ◌+◌, Bool, false, ◌==◌, List, map, min, Option, Some, None}
 use Rattle.std.specs.List.{filter, list_any}
 use Rattle.std.specs.Ordering.{nat_cmp}
 use Rattle.cp_base.specs.declared.identifier.ClientId.{ClientId}
+use Rattle.cp_base.specs.declared.limits.TheConstants.{LAST_NUMBER}
 use Rattle.cp_group_state.specs.Rows.{find}
 use Rattle.cp_group_state.specs.Waiters.{first, same_client}
 pub use Rattle.cp_group_state.specs.declared.rows.SessionRow.{SessionRow}
@@ -29,7 +30,7 @@ unchanged_since rows pairs = map (λ p. p.0) (filter (λ p. is_at_version p.1 (f
 
 -- a beat raises the version
 abbrev pub beaten : SessionRow → SessionRow
-beaten row = record row { version = min (row.version + 1) (2 ^ 62) }
+beaten row = record row { version = min (row.version + 1) LAST_NUMBER }
 
 abbrev pub is_among : List ℕ → ℕ → Bool
 is_among sessions s = list_any (λ x. x == s) sessions

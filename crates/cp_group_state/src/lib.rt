@@ -6,8 +6,10 @@ ghost use Rattle.cp_group_state.specs.Laws.{CallsActAtMostOnce, FencesAlwaysRise
 ghost use Rattle.cp_group_state.specs.Laws.{EachLockHasOneOwner, FullOrderIsOrder, RunsGoByStates};
 ghost use Rattle.cp_group_state.specs.Laws.{LocksAreHeldOrFree, ClientsHaveOneSession, CallsWaitOnce, PermitsStayBalanced, HoldingsAreOfSemaphores};
 
+mod outcome;
 mod rows;
 
+pub use outcome::{LatchOutcome, Released, Reply, SemOutcome, Taken};
 pub use rows::{Holder, LatchRow, LockRow, MemoryRow, SemaphoreRow, SessionRow, Waiter};
 
 /// In every orderly history each call with a session, and each countdown of a latch, acts at most once.

@@ -1,5 +1,5 @@
 -- What the rules' definitions come to, case by case.
-use Rattle.std.proofs.Common.{◌≡◌, ℕ, Bool, true, false, List, [], ◌∷◌, ℤ, ◌||◌, map, Option, Some, None, refl, ap, sym, ◌∙◌, if◌then◌else◌}
+use Rattle.std.proofs.Common.{◌≡◌, ℕ, Bool, true, false, List, [], ◌∷◌, ℤ, ◌||◌, map, Option, Some, None, refl, ap, sym, subst, ◌∙◌, if◌then◌else◌}
 use Rattle.std.specs.Prelude.{pos, int_lt, nat_lt, neg_ℤ, ◌+ℤ◌, ◌-ℤ◌, ◌+◌, ◌-◌, ◌^◌}
 use Rattle.std.specs.List.{filter, list_any}
 use Rattle.std.specs.Option.{option_map}
@@ -10,6 +10,7 @@ use Rattle.cp_answers.specs.declared.answer.Answer.{Answer}
 use Rattle.cp_answers.specs.declared.answer.Answer.TheVariants as answer
 use Rattle.cp_object_ops.specs.declared.sem_op.SemOp.{SemOp}
 use Rattle.cp_object_ops.specs.declared.sem_op.SemOp.TheVariants as sem
+use Rattle.cp_ops.specs.declared.op.Op.{Op}
 use Rattle.cp_op_values.specs.declared.kind.Kind.{Kind}
 use Rattle.cp_op_values.specs.declared.kind.Kind.TheVariants as kind
 use Rattle.cp_group_state.specs.Destroying.{add_gone, drop_rows}
@@ -20,18 +21,22 @@ use Rattle.cp_group_state.specs.declared.rows.SemaphoreRow.{SemaphoreRow}
 use Rattle.cp_group_state.specs.declared.rows.Waiter.{Waiter}
 use Rattle.cp_group_state.specs.Rows.{Named, Object, find, has_room, most, name_cmp, object_cmp}
 use Rattle.cp_group_state.specs.Waiters.{Ended, waits_on}
-use Rattle.cp_group_state.specs.Locks.{Acquired, Full, acquired, lock_at, is_free, is_held_by, most_holds}
-use Rattle.cp_group_state.specs.Semaphores.{Semaphores, SemStep, Wants, sem_step, sem_step_on, sem_step_at, sem_step_absent, raise_total, release_held, is_held, held, served}
+use Rattle.cp_group_state.specs.Locks.{Acquired, acquired, lock_at, is_free, is_held_by, most_holds}
+use Rattle.cp_group_state.specs.declared.outcome.SemOutcome.TheVariants.{Wants}
+use Rattle.cp_group_state.specs.Semaphores.{Semaphores, SemStep, sem_step, sem_step_on, sem_step_at, sem_step_absent, raise_total, release_held, is_held, held, served}
 use Rattle.cp_group_state.specs.Sessions.{session_of}
 use Rattle.cp_group_state.specs.GroupState.{GroupState}
 use Rattle.cp_group_state.specs.Changes.{Change}
-use Rattle.cp_group_state.specs.Outcomes.{Reply, Answered, Waits, answered}
+use Rattle.cp_group_state.specs.declared.outcome.Reply.{Reply}
+use Rattle.cp_group_state.specs.declared.outcome.Reply.TheVariants.{Answered, Waits}
+use Rattle.cp_group_state.specs.Outcomes.{answered}
 use Rattle.cp_group_state.specs.SessionRules as rules
-use Rattle.cp_group_state.specs.Apply.{settle, settle_answer, settle_wait, after_change}
+use Rattle.cp_group_state.specs.Protected.{session_in}
+use Rattle.cp_group_state.specs.Apply.{outcome, settle, settle_answer, settle_wait, after_change}
+use Rattle.cp_group_state.proofs.Told.{IsOwnWait, own-outcome}
 use Rattle.cp_semaphore.specs.Outcomes.{available_of}
 use Rattle.cp_semaphore.specs.Serving.{AreServed}
 use Rattle.cp_session.specs.Creation.{Created, created, created_from}
-use Rattle.cp_session.specs.Creation as creation
 use Rattle.cp_session.specs.Beats.{with_beat, version_after}
 use Rattle.cp_group_tables.specs.declared.ending.Ending.{Ending}
 use Rattle.cp_group_tables.specs.Endings.{ended_by}
@@ -45,11 +50,11 @@ either P false x y p q = q
 
 -- a table that is full stays as it is
 pub full_locks_stay : (rows : Named LockRow) (index : ℕ) (name : List ℕ) (who : Holder) (limit : ℕ)
-    → (acquired rows index name who limit).taken ≡ Full → (acquired rows index name who limit).rows ≡ rows
-full_locks_stay rows index name who limit = either (λ (a : Acquired). a.taken ≡ Full → a.rows ≡ rows) (is_free (lock_at rows name)) _ _
-    (either (λ (a : Acquired). a.taken ≡ Full → a.rows ≡ rows) (has_room name_cmp most rows name) _ _ (λ e. cc) (λ e. refl))
-    (either (λ (a : Acquired). a.taken ≡ Full → a.rows ≡ rows) (is_held_by who (lock_at rows name)) _ _
-    (either (λ (a : Acquired). a.taken ≡ Full → a.rows ≡ rows) (nat_lt (lock_at rows name).holds (most_holds limit)) _ _ (λ e. cc) (λ e. refl))
+    → (acquired rows index name who limit).taken ≡ None → (acquired rows index name who limit).rows ≡ rows
+full_locks_stay rows index name who limit = either (λ (a : Acquired). a.taken ≡ None → a.rows ≡ rows) (is_free (lock_at rows name)) _ _
+    (either (λ (a : Acquired). a.taken ≡ None → a.rows ≡ rows) (has_room name_cmp most rows name) _ _ (λ e. cc) (λ e. refl))
+    (either (λ (a : Acquired). a.taken ≡ None → a.rows ≡ rows) (is_held_by who (lock_at rows name)) _ _
+    (either (λ (a : Acquired). a.taken ≡ None → a.rows ≡ rows) (nat_lt (lock_at rows name).holds (most_holds limit)) _ _ (λ e. cc) (λ e. refl))
     (λ e. refl))
 
 -- ---- semaphores
@@ -90,12 +95,12 @@ wants_stay key op s = on (find object_cmp s.rows key)
 
 -- a table that is full stays as it is
 pub full_sessions_stay : (rows : List (ℕ × SessionRow)) (index : ℕ) (client : ClientId)
-    → (created rows index client).creation ≡ creation.Full → (created rows index client).rows ≡ rows
+    → (created rows index client).number ≡ None → (created rows index client).rows ≡ rows
 full_sessions_stay rows index client = on (session_of rows client)
   where
-    on : (o : Option (ℕ × SessionRow)) → (created_from rows index client o).creation ≡ creation.Full → (created_from rows index client o).rows ≡ rows
+    on : (o : Option (ℕ × SessionRow)) → (created_from rows index client o).number ≡ None → (created_from rows index client o).rows ≡ rows
     on (Some e) = λ h. refl
-    on None = either (λ (c : Created). c.creation ≡ creation.Full → c.rows ≡ rows) (has_room nat_cmp most rows index) _ _ (λ e. cc) (λ e. refl)
+    on None = either (λ (c : Created). c.number ≡ None → c.rows ≡ rows) (has_room nat_cmp most rows index) _ _ (λ e. cc) (λ e. refl)
 
 -- a beat of a session that is open
 pub beaten : (s : GroupState) (number version : ℕ) (o : Option SessionRow) → option_map version_after o ≡ Some version
@@ -111,11 +116,15 @@ not_beaten s number (Some row) e = cc
 
 -- ---- calls
 
-pub settled_answer : (session : Option ℕ) (call : Invocation) (r : Reply) (c : Change) (a : Answer) → r ≡ Answered a → settle session call r c ≡ settle_answer session call a c
-settled_answer session call r c a e = rw e refl
+pub settled_answer : (session : Option ℕ) (call : Invocation) (r : Reply) (c : Change) (a : Answer) → Answered a ≡ r → settle session call r c ≡ settle_answer session call a c
+settled_answer session call r c a e = rw (← e) refl
 
-pub settled_wait : (session : Option ℕ) (call : Invocation) (r : Reply) (c : Change) (w : Waiter) → r ≡ Waits w → settle session call r c ≡ after_change c (settle_wait session call w)
-settled_wait session call r c w e = rw e refl
+pub settled_wait : (session : Option ℕ) (call : Invocation) (r : Reply) (c : Change) (w : Waiter) → Waits w ≡ r → settle session call r c ≡ after_change c (settle_wait session call w)
+settled_wait session call r c w e = rw (← e) refl
+
+-- a waiter is of the call itself
+pub own_call : (index : ℕ) (call : Invocation) (o : Op) (s : GroupState) (w : Waiter) → Waits w ≡ (outcome index call o s).reply → w.call ≡ call
+own_call index call o s w e = (subst (IsOwnWait call (session_in o)) (sym e) (own-outcome index call o s)).0
 
 -- the objects on which these waited
 pub objects_of : (how : Ending) (ws : List Waiter) → map {B = Object} (λ (e : Ended). (e.waiter.name, e.waiter.kind)) (ended_by how ws) ≡ map {B = Object} (λ (w : Waiter). (w.name, w.kind)) ws

@@ -1,4 +1,3 @@
 pub mod Endings
-pub mod Replies
 pub mod Recalls
 pub mod Stand

@@ -11,10 +11,9 @@ ghost use Rattle.cp_group_tables.specs.Endings.{ended_by};
 use crate::ending::Ending;
 use crate::named::session_in;
 use crate::recall::{Recall, look_back};
-use crate::reply::Reply;
 use crate::tables::GroupTables;
 use cp_base::{Invocation, Items, NoMemory};
-use cp_group_state::Waiter;
+use cp_group_state::{Reply, Waiter};
 use cp_ops::{Answer, Op};
 use cp_wait::WaitError;
 
@@ -109,7 +108,7 @@ impl GroupTables {
     }
 
     /// Does a call that is neither repeated nor late.
-    #[tactic(auto, using(crate::proofs::RuleCases::settled_answer, crate::proofs::RuleCases::settled_wait))]
+    #[tactic(auto, using(crate::proofs::RuleCases::settled_answer, crate::proofs::RuleCases::settled_wait, crate::proofs::RuleCases::own_call))]
     fn perform(
         &mut self,
         index: u64,
@@ -140,10 +139,12 @@ impl GroupTables {
         session: u64,
         out: &mut Items<(Invocation, Answer)>,
     ) -> Result<(), NoMemory>
-        ensures state { OnOk result (self.new ≡ (by_memory index call.now op.now
-            (find holder_cmp self.old.memory (session, call.now.thread.0)) self.old).state) }
-        ensures told { OnOk result (out.new ≡ out.old ++ (by_memory index call.now op.now
-            (find holder_cmp self.old.memory (session, call.now.thread.0)) self.old).answers) }
+        ensures state { OnOk result
+            (self.new ≡ (by_memory index call.now op.now (find holder_cmp self.old.memory (session, call.now.thread.0)) self.old).state) }
+        ensures told { OnOk result
+            (out.new
+            ≡ out.old
+            ++ (by_memory index call.now op.now (find holder_cmp self.old.memory (session, call.now.thread.0)) self.old).answers) }
     {
         match look_back(&self.memory, session, call)? {
             Recall::New => self.perform(index, call, op, out),
@@ -182,11 +183,12 @@ impl GroupTables {
         call: &Invocation,
         out: &mut Items<(Invocation, Answer)>,
     ) -> Result<Items<Waiter>, NoMemory>
-        ensures ended { IfOk result (λ ended. ended_by (ending.Cancelled call.now.number)
-            ended ≡ (end_all (is_older call.now) (λ w. answer.WaitCancelled call.now.number) self.old).ended) }
+        ensures ended { IfOk result
+            (λ ended. ended_by (ending.Cancelled call.now.number) ended
+            ≡ (end_all (is_older call.now) (λ w. answer.WaitCancelled call.now.number) self.old).ended) }
         ensures state { OnOk result (self.new ≡ (end_all (is_older call.now) (λ w. answer.WaitCancelled call.now.number) self.old).state) }
-        ensures told { OnOk result (out.new ≡ out.old ++ told
-            (end_all (is_older call.now) (λ w. answer.WaitCancelled call.now.number) self.old).ended) }
+        ensures told { OnOk result
+            (out.new ≡ out.old ++ told (end_all (is_older call.now) (λ w. answer.WaitCancelled call.now.number) self.old).ended) }
     {
         let older = self.waits.older(call)?;
         self.end(older.as_slice(), Ending::Cancelled(call.number), out)?;

@@ -1,8 +1,6 @@
 //! The end of sessions.
 ghost use Rattle.std.specs.Prelude.{◌≡◌, ◌++◌, IfOk, OnOk};
-ghost use Rattle.std.specs.Ordering.{nat_cmp};
-ghost use Rattle.cp_group_state.specs.Rows.{find};
-ghost use Rattle.cp_group_state.specs.Sessions.{is_among, is_at_version, unchanged_since};
+ghost use Rattle.cp_group_state.specs.Sessions.{is_among, unchanged_since};
 ghost use Rattle.cp_answers.specs.declared.answer.Answer.TheVariants as answer;
 ghost use Rattle.cp_group_state.specs.Waiters as waiters;
 ghost use Rattle.cp_group_state.specs.Locks.{held_among};
@@ -18,33 +16,6 @@ use crate::tables::GroupTables;
 use cp_base::{Invocation, Items, Name, NoMemory};
 use cp_group_state::Waiter;
 use cp_ops::{Answer, Kind};
-use cp_session::Sessions;
-use std::alloc::Global;
-
-/// Whether the session is open with this version.
-fn has_version(sessions: &Sessions, session: u64, version: u64) -> bool
-    ensures { result ≡ is_at_version version (find nat_cmp sessions.now session) }
-{
-    match sessions.version(session) {
-        Some(now) => now == version,
-        None => false,
-    }
-}
-
-/// The sessions that are named with the version that they have.
-fn unchanged(alloc: Global, sessions: &Sessions, pairs: &[(u64, u64)]) -> Result<Vec<u64>, NoMemory>
-    ensures { IfOk result (λ found. found.items ≡ unchanged_since sessions.now pairs.now) }
-{
-    let mut found = Vec::new(alloc);
-    let mut rest = pairs;
-    while let [(session, version), after @ ..] = rest {
-        if has_version(sessions, *session, *version) {
-            found.push(*session)?;
-        }
-        rest = after;
-    }
-    Ok(found)
-}
 
 impl GroupTables {
     /// These sessions and what is remembered of their threads go.
@@ -61,12 +32,14 @@ impl GroupTables {
         sessions: &[u64],
         out: &mut Items<(Invocation, Answer)>,
     ) -> Result<Items<Waiter>, NoMemory>
-        ensures ended { IfOk result (λ ended. ended_by ending.SessionExpired ended ≡ waiters.ending
-            (λ w. is_among sessions.now w.session) (λ w. answer.SessionExpired w.session) self.old.waiters) }
-        ensures state { OnOk result (self.new ≡ (end_all (λ w. is_among sessions.now w.session)
-            (λ w. answer.SessionExpired w.session) self.old).state) }
-        ensures told { OnOk result (out.new ≡ out.old ++ told
-            (end_all (λ w. is_among sessions.now w.session) (λ w. answer.SessionExpired w.session) self.old).ended) }
+        ensures ended { IfOk result
+            (λ ended. ended_by ending.SessionExpired ended
+            ≡ waiters.ending (λ w. is_among sessions.now w.session) (λ w. answer.SessionExpired w.session) self.old.waiters) }
+        ensures state { OnOk result
+            (self.new ≡ (end_all (λ w. is_among sessions.now w.session) (λ w. answer.SessionExpired w.session) self.old).state) }
+        ensures told { OnOk result
+            (out.new
+            ≡ out.old ++ told (end_all (λ w. is_among sessions.now w.session) (λ w. answer.SessionExpired w.session) self.old).ended) }
     {
         let ended = self.waits.of_sessions(sessions)?;
         self.end(ended.as_slice(), Ending::SessionExpired, out)?;
@@ -134,14 +107,6 @@ impl GroupTables {
         Ok(())
     }
 
-    /// The sessions that are named with the version that they have.
-    fn unchanged(&self, pairs: &[(u64, u64)]) -> Result<Vec<u64>, NoMemory>
-        ensures { IfOk result (λ found. found.items ≡ unchanged_since self.now.sessions pairs.now) }
-    {
-        let found = unchanged(self.alloc, &self.sessions, pairs)?;
-        Ok(found)
-    }
-
     /// The sessions that are named with the version that they have are closed.
     pub(crate) fn expire_sessions(
         &mut self,
@@ -152,7 +117,7 @@ impl GroupTables {
         ensures state { OnOk result (self.new ≡ (close index (unchanged_since self.old.sessions pairs.now) self.old).state) }
         ensures told { OnOk result (out.new ≡ out.old ++ told (close index (unchanged_since self.old.sessions pairs.now) self.old).ended) }
     {
-        let sessions = self.unchanged(pairs)?;
+        let sessions = self.sessions.unchanged(pairs)?;
         self.close(index, &sessions, out)?;
         Ok(())
     }

@@ -1,17 +1,15 @@
 //! Objects that are destroyed.
 ghost use Rattle.std.specs.Prelude.{◌≡◌, ◌++◌, if◌then◌else◌, IfOk, OnOk};
 ghost use Rattle.cp_group_state.specs.Rows.{has_room, most, object_cmp};
-ghost use Rattle.cp_group_state.specs.Outcomes.{Answered};
+ghost use Rattle.cp_group_state.specs.declared.outcome.Reply.TheVariants.{Answered};
 ghost use Rattle.cp_group_state.specs.Destroying.{add_gone, destroy_rule, drop_rows};
 ghost use Rattle.cp_group_state.specs.Apply.{told};
 
 use crate::ending::Ending;
 use crate::tables::GroupTables;
+use cp_base::limits::MOST_ROWS;
 use cp_base::{Invocation, Items, Name, NoMemory};
 use cp_ops::{Answer, Kind};
-
-/// The most destroyed names.
-const MOST: u32 = 10_000;
 
 impl GroupTables {
     /// What the tables have of an object goes.
@@ -52,7 +50,7 @@ impl GroupTables {
         ensures reply { IfOk result (λ answer. (destroy_rule kind name.now self.old).reply ≡ Answered answer) }
     {
         if !self.add_gone(kind, name)? {
-            return Ok(Answer::TableFull(MOST));
+            return Ok(Answer::TableFull(MOST_ROWS));
         }
         self.drop_rows(kind, name)?;
         self.end_on_object(kind, name, Ending::ObjectDestroyed, out)?;

@@ -4,25 +4,23 @@ ghost use Rattle.cp_group_state.specs.GroupState.{GroupState};
 ghost use Rattle.cp_group_state.specs.Changes.{stay};
 ghost use Rattle.cp_group_state.specs.LatchRules.{latch_rule, latch_wait};
 ghost use Rattle.cp_group_state.specs.Apply.{told};
-ghost use Rattle.cp_group_tables.specs.Replies.{IsReply};
 
 use crate::ending::Ending;
-use crate::reply::Reply;
 use crate::tables::GroupTables;
+use crate::waiting::wait;
 use cp_base::{Invocation, Items, Name, NoMemory};
-use cp_group_state::Waiter;
-use cp_latch::LatchOutcome;
+use cp_group_state::{LatchOutcome, Reply, Waiter};
 use cp_ops::{Answer, Kind, LatchOp, Wish};
 
 /// A call that awaits the latch waits, unless it doesn't wish to.
 fn latch_wait(call: &Invocation, name: &Name, op: &LatchOp) -> Result<Reply, NoMemory>
     ensures stays { OnOk result ((s : GroupState) → (latch_wait call.now name.now op.now s).change ≡ stay s) }
-    ensures reply { IfOk result (λ reply. (s : GroupState) → IsReply call.now reply (latch_wait call.now name.now op.now s).reply) }
+    ensures reply { IfOk result (λ reply. (s : GroupState) → reply ≡ (latch_wait call.now name.now op.now s).reply) }
 {
     match *op {
         LatchOp::Await(millis) => {
             let name = name.clone()?;
-            Ok(Reply::wait(Waiter {
+            Ok(wait(Waiter {
                 call: *call,
                 kind: Kind::Latch,
                 name,
@@ -31,10 +29,9 @@ fn latch_wait(call: &Invocation, name: &Name, op: &LatchOp) -> Result<Reply, NoM
                 wish: Wish::Within(millis),
             }))
         }
-        LatchOp::Count => Ok(Reply::Answered(Answer::Ok)),
-        LatchOp::Round => Ok(Reply::Answered(Answer::Ok)),
-        LatchOp::Set(_) => Ok(Reply::Answered(Answer::Ok)),
-        LatchOp::Down(_) => Ok(Reply::Answered(Answer::Ok)),
+        LatchOp::Count | LatchOp::Round | LatchOp::Set(_) | LatchOp::Down(_) => {
+            Ok(Reply::Answered(Answer::Ok))
+        }
     }
 }
 
@@ -49,7 +46,7 @@ impl GroupTables {
     ) -> Result<Reply, NoMemory>
         ensures state { OnOk result (self.new ≡ (latch_rule call.now name.now op.now self.old).change.state) }
         ensures told { OnOk result (out.new ≡ out.old ++ told (latch_rule call.now name.now op.now self.old).change.ended) }
-        ensures reply { IfOk result (λ reply. IsReply call.now reply (latch_rule call.now name.now op.now self.old).reply) }
+        ensures reply { IfOk result (λ reply. reply ≡ (latch_rule call.now name.now op.now self.old).reply) }
     {
         match self.latches.apply(name, call, op)? {
             LatchOutcome::Done(answer) => Ok(Reply::Answered(answer)),

@@ -12,7 +12,6 @@ mod lending;
 mod lock_rules;
 mod named;
 mod recall;
-mod reply;
 mod rules;
 mod sem_rules;
 mod serving;
@@ -20,6 +19,7 @@ mod session_rules;
 mod tables;
 mod timed;
 mod waiters;
+mod waiting;
 
 pub use ending::Ending;
 pub use lending::ObjectTables;

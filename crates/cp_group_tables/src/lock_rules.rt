@@ -2,15 +2,14 @@
 ghost use Rattle.std.specs.Prelude.{◌≡◌, ◌++◌, [], IfOk, OnOk};
 ghost use Rattle.cp_object_ops.specs.declared.lock_op.LockOp.TheVariants as lock;
 ghost use Rattle.cp_group_state.specs.LockRules.{lock_rule, owner_answer};
-ghost use Rattle.cp_group_state.specs.Outcomes.{Answered};
+ghost use Rattle.cp_group_state.specs.declared.outcome.Reply.TheVariants.{Answered};
 ghost use Rattle.cp_group_state.specs.Apply.{told};
-ghost use Rattle.cp_group_tables.specs.Replies.{IsReply};
 
-use crate::reply::Reply;
 use crate::tables::GroupTables;
+use crate::waiting::wait;
 use cp_base::{Invocation, Items, Name, NoMemory};
-use cp_group_state::{Holder, LockRow, Waiter};
-use cp_lock::{LockError, Released, Taken};
+use cp_group_state::{Holder, LockRow, Released, Reply, Taken, Waiter};
+use cp_lock::LockError;
 use cp_ops::{Answer, Kind, LockOp, Wish};
 
 /// Who owns the lock.
@@ -36,11 +35,11 @@ impl GroupTables {
         limit: u32,
         wish: Wish,
     ) -> Result<Reply, NoMemory>
-        ensures state { OnOk result (self.new ≡ (lock_rule index call.now name.now (lock.Acquire session limit wish)
-            self.old).change.state) }
+        ensures state { OnOk result
+            (self.new ≡ (lock_rule index call.now name.now (lock.Acquire session limit wish) self.old).change.state) }
         ensures ended { OnOk result ((lock_rule index call.now name.now (lock.Acquire session limit wish) self.old).change.ended ≡ []) }
-        ensures reply { IfOk result (λ reply. IsReply call.now reply
-            (lock_rule index call.now name.now (lock.Acquire session limit wish) self.old).reply) }
+        ensures reply { IfOk result
+            (λ reply. reply ≡ (lock_rule index call.now name.now (lock.Acquire session limit wish) self.old).reply) }
     {
         let who = Holder {
             session,
@@ -51,7 +50,7 @@ impl GroupTables {
             Ok(Taken::Limit(most)) => Ok(Reply::Answered(Answer::LimitReached(most))),
             Ok(Taken::Busy) => {
                 let name = name.clone()?;
-                Ok(Reply::wait(Waiter {
+                Ok(wait(Waiter {
                     call: *call,
                     kind: Kind::Lock,
                     name,
@@ -75,10 +74,10 @@ impl GroupTables {
         out: &mut Items<(Invocation, Answer)>,
     ) -> Result<Answer, NoMemory>
         ensures state { OnOk result (self.new ≡ (lock_rule index call.now name.now (lock.Release session) self.old).change.state) }
-        ensures told { OnOk result (out.new ≡ out.old ++ told
-            (lock_rule index call.now name.now (lock.Release session) self.old).change.ended) }
-        ensures reply { IfOk result (λ answer. (lock_rule index call.now name.now (lock.Release session) self.old).reply ≡ Answered
-            answer) }
+        ensures told { OnOk result
+            (out.new ≡ out.old ++ told (lock_rule index call.now name.now (lock.Release session) self.old).change.ended) }
+        ensures reply { IfOk result
+            (λ answer. (lock_rule index call.now name.now (lock.Release session) self.old).reply ≡ Answered answer) }
     {
         let who = Holder {
             session,
@@ -105,7 +104,7 @@ impl GroupTables {
     ) -> Result<Reply, NoMemory>
         ensures state { OnOk result (self.new ≡ (lock_rule index call.now name.now op.now self.old).change.state) }
         ensures told { OnOk result (out.new ≡ out.old ++ told (lock_rule index call.now name.now op.now self.old).change.ended) }
-        ensures reply { IfOk result (λ reply. IsReply call.now reply (lock_rule index call.now name.now op.now self.old).reply) }
+        ensures reply { IfOk result (λ reply. reply ≡ (lock_rule index call.now name.now op.now self.old).reply) }
     {
         match *op {
             LockOp::Owner => Ok(Reply::Answered(owner_answer(&self.locks.row(name)))),

@@ -2,11 +2,10 @@
 ghost use Rattle.std.specs.Prelude.{◌≡◌, ◌++◌, IfOk, OnOk};
 ghost use Rattle.cp_group_state.specs.Maps.{map_step};
 ghost use Rattle.cp_group_state.specs.Apply.{outcome, rule, told};
-ghost use Rattle.cp_group_tables.specs.Replies.{IsReply};
 
-use crate::reply::Reply;
 use crate::tables::GroupTables;
 use cp_base::{Invocation, Items, Name, NoMemory};
+use cp_group_state::Reply;
 use cp_ops::{Answer, Kind, MapOp, Op};
 
 impl GroupTables {
@@ -29,7 +28,7 @@ impl GroupTables {
     ) -> Result<Reply, NoMemory>
         ensures state { OnOk result (self.new ≡ (rule index call.now op.now self.old).change.state) }
         ensures told { OnOk result (out.new ≡ out.old ++ told (rule index call.now op.now self.old).change.ended) }
-        ensures reply { IfOk result (λ reply. IsReply call.now reply (rule index call.now op.now self.old).reply) }
+        ensures reply { IfOk result (λ reply. reply ≡ (rule index call.now op.now self.old).reply) }
     {
         match op {
             Op::Lock(name, op) => {
@@ -84,7 +83,7 @@ impl GroupTables {
     ) -> Result<Reply, NoMemory>
         ensures state { OnOk result (self.new ≡ (outcome index call.now op.now self.old).change.state) }
         ensures told { OnOk result (out.new ≡ out.old ++ told (outcome index call.now op.now self.old).change.ended) }
-        ensures reply { IfOk result (λ reply. IsReply call.now reply (outcome index call.now op.now self.old).reply) }
+        ensures reply { IfOk result (λ reply. reply ≡ (outcome index call.now op.now self.old).reply) }
     {
         if self.names_gone(op)? {
             return Ok(Reply::Answered(Answer::ObjectDestroyed));

@@ -4,38 +4,36 @@ ghost use Rattle.cp_group_state.specs.GroupState.{GroupState};
 ghost use Rattle.cp_group_state.specs.Changes.{stay};
 ghost use Rattle.cp_group_state.specs.SemaphoreRules.{is_acquire, is_behind, sem_rule, sem_wait};
 ghost use Rattle.cp_group_state.specs.Apply.{told};
-ghost use Rattle.cp_group_tables.specs.Replies.{IsReply};
 
-use crate::reply::Reply;
 use crate::tables::GroupTables;
+use crate::waiting::wait;
 use cp_base::{Invocation, Items, Name, NoMemory};
-use cp_group_state::Waiter;
+use cp_group_state::{Reply, SemOutcome, Waiter};
 use cp_ops::{Answer, Kind, SemOp};
-use cp_semaphore::SemOutcome;
 
 fn is_acquire(op: &SemOp) -> bool
     ensures { result ≡ is_acquire op.now }
 {
     match op {
         SemOp::Acquire(_, _, _) => true,
-        SemOp::Available => false,
-        SemOp::Init(_) => false,
-        SemOp::Release(_, _) => false,
-        SemOp::Drain(_) => false,
-        SemOp::Increase(_, _) => false,
-        SemOp::Reduce(_, _) => false,
+        SemOp::Available
+        | SemOp::Init(_)
+        | SemOp::Release(_, _)
+        | SemOp::Drain(_)
+        | SemOp::Increase(_, _)
+        | SemOp::Reduce(_, _) => false,
     }
 }
 
 /// An acquire that can't go on waits, unless it doesn't wish to.
 fn sem_wait(call: &Invocation, kind: Kind, name: &Name, op: &SemOp) -> Result<Reply, NoMemory>
     ensures stays { OnOk result ((s : GroupState) → (sem_wait call.now (name.now, kind) op.now s).change ≡ stay s) }
-    ensures reply { IfOk result (λ reply. (s : GroupState) → IsReply call.now reply (sem_wait call.now (name.now, kind) op.now s).reply) }
+    ensures reply { IfOk result (λ reply. (s : GroupState) → reply ≡ (sem_wait call.now (name.now, kind) op.now s).reply) }
 {
     match *op {
         SemOp::Acquire(session, permits, wish) => {
             let name = name.clone()?;
-            Ok(Reply::wait(Waiter {
+            Ok(wait(Waiter {
                 call: *call,
                 kind,
                 name,
@@ -44,12 +42,12 @@ fn sem_wait(call: &Invocation, kind: Kind, name: &Name, op: &SemOp) -> Result<Re
                 wish,
             }))
         }
-        SemOp::Available => Ok(Reply::Answered(Answer::NotInitialized)),
-        SemOp::Init(_) => Ok(Reply::Answered(Answer::NotInitialized)),
-        SemOp::Release(_, _) => Ok(Reply::Answered(Answer::NotInitialized)),
-        SemOp::Drain(_) => Ok(Reply::Answered(Answer::NotInitialized)),
-        SemOp::Increase(_, _) => Ok(Reply::Answered(Answer::NotInitialized)),
-        SemOp::Reduce(_, _) => Ok(Reply::Answered(Answer::NotInitialized)),
+        SemOp::Available
+        | SemOp::Init(_)
+        | SemOp::Release(_, _)
+        | SemOp::Drain(_)
+        | SemOp::Increase(_, _)
+        | SemOp::Reduce(_, _) => Ok(Reply::Answered(Answer::NotInitialized)),
     }
 }
 
@@ -81,7 +79,7 @@ impl GroupTables {
         requires { is_behind (name.now, kind) op.now self.old ≡ false }
         ensures state { OnOk result (self.new ≡ (sem_rule call.now (name.now, kind) op.now self.old).change.state) }
         ensures told { OnOk result (out.new ≡ out.old ++ told (sem_rule call.now (name.now, kind) op.now self.old).change.ended) }
-        ensures reply { IfOk result (λ reply. IsReply call.now reply (sem_rule call.now (name.now, kind) op.now self.old).reply) }
+        ensures reply { IfOk result (λ reply. reply ≡ (sem_rule call.now (name.now, kind) op.now self.old).reply) }
     {
         match self.semaphores.apply(kind, name, op)? {
             SemOutcome::Done(answer) => Ok(Reply::Answered(answer)),
@@ -107,7 +105,7 @@ impl GroupTables {
     ) -> Result<Reply, NoMemory>
         ensures state { OnOk result (self.new ≡ (sem_rule call.now (name.now, kind) op.now self.old).change.state) }
         ensures told { OnOk result (out.new ≡ out.old ++ told (sem_rule call.now (name.now, kind) op.now self.old).change.ended) }
-        ensures reply { IfOk result (λ reply. IsReply call.now reply (sem_rule call.now (name.now, kind) op.now self.old).reply) }
+        ensures reply { IfOk result (λ reply. reply ≡ (sem_rule call.now (name.now, kind) op.now self.old).reply) }
     {
         if self.is_behind(kind, name, op)? {
             let reply = sem_wait(call, kind, name, op)?;

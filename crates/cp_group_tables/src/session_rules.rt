@@ -2,7 +2,7 @@
 ghost use Rattle.std.specs.Prelude.{◌≡◌, ◌++◌, [], IfOk, OnOk};
 ghost use Rattle.cp_answers.specs.declared.answer.Answer.TheVariants as answer;
 ghost use Rattle.cp_ops.specs.declared.session_op.SessionOp.TheVariants as session;
-ghost use Rattle.cp_group_state.specs.Outcomes.{Answered};
+ghost use Rattle.cp_group_state.specs.declared.outcome.Reply.TheVariants.{Answered};
 ghost use Rattle.cp_group_state.specs.SessionRules.{session_rule};
 ghost use Rattle.cp_group_state.specs.Apply.{told};
 

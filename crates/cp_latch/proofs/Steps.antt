@@ -14,14 +14,16 @@ use Rattle.cp_answers.specs.declared.answer.Answer.TheVariants as answer
 use Rattle.cp_base.specs.declared.identifier.Invocation.{Invocation}
 use Rattle.cp_group_state.specs.Rows.{Named, find, put, most, name_cmp}
 use Rattle.cp_group_state.specs.Invariants.{IsRising}
-use Rattle.cp_group_state.specs.Latches.{Done, set_latch, or_new, latch_at, new_latch, counted_calls, next_round, counted_down, is_over, is_counted}
+use Rattle.cp_group_state.specs.declared.outcome.LatchOutcome.TheVariants.{Done}
+use Rattle.cp_group_state.specs.Latches.{set_latch, or_new, latch_at, new_latch, counted_calls, next_round, counted_down, is_over, is_counted}
 use Rattle.cp_group_state.specs.declared.rows.LatchRow.{LatchRow}
 use Rattle.cp_latch.specs.declared.rounds.Begun.{Begun}
 use Rattle.cp_latch.specs.declared.rounds.Begun.TheVariants as begun
 use Rattle.cp_latch.specs.declared.rounds.Down.{Down}
 use Rattle.cp_latch.specs.declared.rounds.Down.TheVariants as down
 use Rattle.cp_latch.specs.Rounds.{AreRounds, with_row, IsBegun, IsBegunIn, IsDown, IsDownIn}
-use Rattle.cp_rows.proofs.Changes.{put_there, rises_one}
+use Rattle.cp_rows.proofs.Ordered.{put_there}
+use Rattle.cp_rows.proofs.Changes.{rises_one}
 use Rattle.cp_latch.proofs.Totals.{calls_written, same_total}
 
 -- the row under a name, and the rows with another one written there

@@ -1,8 +1,10 @@
 -- What a call on the latch of a name meets, and what it does to the rows.
-use Rattle.std.specs.Prelude.{◌≡◌, ◌≤◌, ◌+◌, ◌^◌, All, ℕ, Bool, true, false, ◌==◌, List, length, None, is_some, if◌then◌else◌}
+use Rattle.std.specs.Prelude.{◌≡◌, ◌≤◌, ◌+◌, All, ℕ, Bool, true, false, ◌==◌, List, length, None, is_some, if◌then◌else◌}
+use Rattle.cp_base.specs.declared.limits.TheConstants.{LAST_NUMBER}
 use Rattle.cp_base.specs.declared.identifier.Invocation.{Invocation}
 use Rattle.cp_group_state.specs.Rows.{Named, find, put, has_room, most, name_cmp}
-use Rattle.cp_group_state.specs.Latches.{LatchStep, Done, latch_at, counted_calls, next_round, counted_down, is_over}
+use Rattle.cp_group_state.specs.declared.outcome.LatchOutcome.TheVariants.{Done}
+use Rattle.cp_group_state.specs.Latches.{LatchStep, latch_at, counted_calls, next_round, counted_down, is_over}
 use Rattle.cp_group_state.specs.declared.rows.LatchRow.{LatchRow}
 use Rattle.cp_answers.specs.declared.answer.Answer.TheVariants as answer
 use Rattle.cp_latch.specs.declared.rounds.Begun.{Begun}
@@ -12,7 +14,7 @@ use Rattle.cp_latch.specs.declared.rounds.Down.TheVariants as down
 
 -- no round is beyond the greatest
 abbrev pub AreRounds : Named LatchRow → Type 0
-AreRounds rows = All (λ e. e.1.round ≤ 2 ^ 62) rows
+AreRounds rows = All (λ e. e.1.round ≤ LAST_NUMBER) rows
 
 -- the row of a latch that had none, where there is room
 abbrev pub with_row : Named LatchRow → List ℕ → LatchRow → LatchStep

@@ -3,6 +3,7 @@ ghost use Rattle.std.specs.Prelude.{◌≡◌, ◌+◌, ◌<◌, ◌≤◌, ◌^
 ghost use Rattle.cp_group_state.specs.Latches.{new_latch, next_round, counted_down, is_over};
 
 use crate::Counted;
+use cp_base::limits::LAST_NUMBER;
 use cp_base::{Invocation, NoMemory};
 use cp_group_state::LatchRow;
 use std::alloc::Global;
@@ -24,19 +25,16 @@ impl Model for Latch {
 
     ghost view = { λ latch. record { round = latch.round; count = latch.count; counted = latch.counted } };
 
-    ghost invariant = { λ latch. latch.round ≤ 2 ^ 62 };
+    ghost invariant = { λ latch. latch.round ≤ LAST_NUMBER };
 }
-
-/// The greatest round.
-const LAST_ROUND: u64 = 1 << 62;
 
 /// The round after this one.
 fn round_after(round: u64) -> u64
-    requires { round ≤ 2 ^ 62 }
-    ensures value { result ≡ min (round + 1) (2 ^ 62) }
-    ensures bound { result ≤ 2 ^ 62 }
+    requires { round ≤ LAST_NUMBER }
+    ensures value { result ≡ min (round + 1) LAST_NUMBER }
+    ensures bound { result ≤ LAST_NUMBER }
 {
-    (round + 1).min(LAST_ROUND)
+    (round + 1).min(LAST_NUMBER)
 }
 
 impl Latch {
@@ -53,7 +51,7 @@ impl Latch {
 
     /// The latch of a row.
     pub(crate) fn from_row(alloc: Global, row: LatchRow) -> Result<Latch, NoMemory>
-        requires { row.round ≤ 2 ^ 62 }
+        requires { row.round ≤ LAST_NUMBER }
         ensures { IfOk result (λ latch. latch ≡ row) }
     {
         let LatchRow {
@@ -71,7 +69,7 @@ impl Latch {
     /// The round: how often the latch was set, 2^62 at most.
     pub fn round(&self) -> u64
         ensures value { result ≡ self.now.round }
-        ensures bound { result ≤ 2 ^ 62 }
+        ensures bound { result ≤ LAST_NUMBER }
     {
         self.round
     }

@@ -1,32 +1,22 @@
 //! The table of the latches of a group.
-ghost use Rattle.std.specs.Prelude.{◌≡◌, ◌≤◌, ◌^◌, ◌==◌, [], ◌∷◌, ◌++◌, true, IfOk, OnOk, OnErr, IfSome, if◌then◌else◌};
+ghost use Rattle.std.specs.Prelude.{◌≡◌, ◌≤◌, ◌==◌, [], ◌∷◌, ◌++◌, true, IfOk, OnOk, OnErr, IfSome, if◌then◌else◌};
 ghost use Rattle.cp_answers.specs.declared.answer.Answer.TheVariants as answer;
 ghost use Rattle.cp_group_state.specs.Rows.{without, name_cmp};
 ghost use Rattle.cp_group_state.specs.Invariants.{IsRising};
-ghost use Rattle.cp_group_state.specs.Latches.{Done, Wants, Opened, counted_calls, latch_at, set_latch, count_down, latch_step};
-ghost use Rattle.cp_latch.specs.Outcomes.{IsOutcome};
+ghost use Rattle.cp_group_state.specs.declared.outcome.LatchOutcome.TheVariants.{Done, Wants, Opened};
+ghost use Rattle.cp_group_state.specs.Latches.{counted_calls, latch_at, set_latch, count_down, latch_step};
 ghost use Rattle.cp_latch.specs.Rounds.{AreRounds};
 
 use crate::Latch;
 use crate::rounds::{Begun, Down, begin_in, down_in, first_round, make_row};
+use cp_base::limits::{LAST_NUMBER, MOST_COUNTED};
 use cp_base::{Invocation, Items, Name, NoMemory};
-use cp_group_state::LatchRow;
+use cp_group_state::{LatchOutcome, LatchRow};
 use cp_ops::{Answer, LatchOp};
 use cp_rows::from_rows;
 use std::alloc::Global;
 use std::collections::BTreeMap;
 use std::marker::Model;
-
-/// What a call on a latch leads to.
-#[derive(Clone, Debug, PartialEq, Eq, Drop)]
-pub enum LatchOutcome {
-    /// An answer.
-    Done(Answer),
-    /// A wait, or `TimedOut` where the call may not wait.
-    Wants,
-    /// The answer `Ok`, with which the latch opens: all that wait for it are answered.
-    Opened,
-}
 
 /// The latches of a group, which contracts see as the list of names and rows by rising name. A latch that was never
 /// set has no row.
@@ -50,9 +40,6 @@ impl Model for Latches {
     ghost invariant = { λ latches. latches.total ≡ counted_calls latches.rows.entries };
 }
 
-/// The most counted calls of all latches.
-const MOST_COUNTED: u32 = 100_000;
-
 /// Sets a latch. `total` is how many calls are counted in all.
 fn set(
     rows: &mut BTreeMap<Name, Latch>,
@@ -63,8 +50,8 @@ fn set(
 ) -> Result<Answer, NoMemory>
     requires { total.old ≡ counted_calls rows.old.entries }
     ensures rows { OnOk result (rows.new.entries ≡ (set_latch rows.old.entries name.now (latch_at rows.old.entries name.now) count).after) }
-    ensures answer { IfOk result (λ answer. (set_latch rows.old.entries name.now (latch_at rows.old.entries name.now) count).outcome
-        ≡ Done answer) }
+    ensures answer { IfOk result
+        (λ answer. (set_latch rows.old.entries name.now (latch_at rows.old.entries name.now) count).outcome ≡ Done answer) }
     ensures err { OnErr result (rows.new.entries ≡ rows.old.entries) }
     ensures total { total.new ≡ counted_calls rows.new.entries }
 {
@@ -87,10 +74,10 @@ fn count_down(
     round: u64,
 ) -> Result<LatchOutcome, NoMemory>
     requires { total.old ≡ counted_calls rows.old.entries }
-    ensures rows { OnOk result (rows.new.entries ≡ (count_down rows.old.entries name.now call.now round
-        (latch_at rows.old.entries name.now)).after) }
-    ensures outcome { IfOk result (λ outcome. IsOutcome outcome
-        (count_down rows.old.entries name.now call.now round (latch_at rows.old.entries name.now)).outcome) }
+    ensures rows { OnOk result
+        (rows.new.entries ≡ (count_down rows.old.entries name.now call.now round (latch_at rows.old.entries name.now)).after) }
+    ensures outcome { IfOk result
+        (λ outcome. outcome ≡ (count_down rows.old.entries name.now call.now round (latch_at rows.old.entries name.now)).outcome) }
     ensures err { OnErr result (rows.new.entries ≡ rows.old.entries) }
     ensures total { total.new ≡ counted_calls rows.new.entries }
 {
@@ -107,7 +94,7 @@ fn count_down(
 
 /// What a countdown that was counted leads to.
 fn outcome_of(opens: bool) -> LatchOutcome
-    ensures { IsOutcome result (if opens then Opened else Done answer.Ok) }
+    ensures { result ≡ (if opens then Opened else Done answer.Ok) }
 {
     if opens {
         LatchOutcome::Opened
@@ -137,7 +124,7 @@ fn add(
     name: Name,
     row: LatchRow,
 ) -> Result<(), NoMemory>
-    requires { row.round ≤ 2 ^ 62 }
+    requires { row.round ≤ LAST_NUMBER }
     ensures { OnOk result (latches.new ≡ latches.old ++ (name, row) ∷ []) }
 {
     let latch = Latch::from_row(alloc, row)?;
@@ -162,7 +149,7 @@ fn latches_of(
 
 /// What an await leads to.
 fn awaited(count: u32) -> LatchOutcome
-    ensures { IsOutcome result (if count == 0 then Done (answer.Bool true) else Wants) }
+    ensures { result ≡ (if count == 0 then Done (answer.Bool true) else Wants) }
 {
     if count == 0 {
         LatchOutcome::Done(Answer::Bool(true))
@@ -220,7 +207,7 @@ impl Latches {
     /// The round of a latch, 0 where it has no row.
     pub fn round(&self, name: &Name) -> u64
         ensures value { result ≡ (latch_at self.now name.now).round }
-        ensures bound { result ≤ 2 ^ 62 }
+        ensures bound { result ≤ LAST_NUMBER }
     {
         match self.rows.get(name) {
             Some(latch) => latch.round(),
@@ -238,7 +225,7 @@ impl Latches {
         op: &LatchOp,
     ) -> Result<LatchOutcome, NoMemory>
         ensures rows { OnOk result (self.new ≡ (latch_step self.old name.now call.now op.now).after) }
-        ensures outcome { IfOk result (λ outcome. IsOutcome outcome (latch_step self.old name.now call.now op.now).outcome) }
+        ensures outcome { IfOk result (λ outcome. outcome ≡ (latch_step self.old name.now call.now op.now).outcome) }
         ensures err { OnErr result (self.new ≡ self.old) }
     {
         match *op {

@@ -7,5 +7,6 @@ mod latches;
 mod rounds;
 
 pub use counted::Counted;
+pub use cp_group_state::LatchOutcome;
 pub use latch::Latch;
-pub use latches::{LatchOutcome, Latches};
+pub use latches::Latches;

@@ -1,13 +1,14 @@
 //! What calls do to the latch of a name.
 ghost use Rattle.std.specs.Prelude.{◌≡◌, [], None, IfOk, OnOk, OnErr};
 ghost use Rattle.cp_group_state.specs.Rows.{find, name_cmp};
-ghost use Rattle.cp_group_state.specs.Latches.{Done, counted_calls, new_latch, next_round};
+ghost use Rattle.cp_group_state.specs.declared.outcome.LatchOutcome.TheVariants.{Done};
+ghost use Rattle.cp_group_state.specs.Latches.{counted_calls, new_latch, next_round};
 ghost use Rattle.cp_latch.specs.Rounds.{with_row, IsBegun, IsBegunIn, IsDown, IsDownIn};
 
 use crate::Latch;
+use cp_base::limits::MOST_ROWS;
 use cp_base::{Invocation, Name, NoMemory};
 use cp_ops::Answer;
-use cp_rows::MOST;
 use std::alloc::Global;
 use std::collections::BTreeMap;
 
@@ -81,8 +82,8 @@ pub(crate) fn make_row(
     ensures counted { counted_calls rows.new.entries ≡ counted_calls rows.old.entries }
     ensures err { OnErr result (rows.new.entries ≡ rows.old.entries) }
 {
-    if rows.len() >= MOST as usize {
-        return Ok(Answer::TableFull(MOST));
+    if rows.len() >= MOST_ROWS as usize {
+        return Ok(Answer::TableFull(MOST_ROWS));
     }
     let name = name.clone()?;
     rows.insert(name, latch)?;

@@ -2,12 +2,12 @@
 #![tactic(auto)]
 
 mod close;
+mod error;
 mod locks;
 mod meet;
-mod outcome;
 mod rows;
 mod session_set;
 
-pub use cp_group_state::{Holder, LockRow};
+pub use cp_group_state::{Holder, LockRow, Released, Taken};
+pub use error::LockError;
 pub use locks::Locks;
-pub use outcome::{LockError, Released, Taken};

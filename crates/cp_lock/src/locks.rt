@@ -1,20 +1,21 @@
 //! The table of locks of a group.
-ghost use Rattle.std.specs.Prelude.{◌≡◌, ℕ, List, [], ◌∷◌, All, IfErr, IfOk, IsSome, OnErr, OnOk};
+ghost use Rattle.std.specs.Prelude.{◌≡◌, ℕ, List, [], ◌∷◌, Some, All, IfErr, IfOk, IsSome, OnErr, OnOk};
 ghost use Rattle.std.specs.Option.{option_copied};
 ghost use Rattle.cp_group_state.specs.Rows.{find, name_cmp, put, without};
+ghost use Rattle.cp_group_state.specs.declared.outcome.Released.TheVariants.{Freed};
 ghost use Rattle.cp_group_state.specs.Locks.{acquired, freed_all, held_among, held_once, lock_at, released_by};
 ghost use Rattle.cp_group_state.specs.Invariants.{IsRising, LocksWell};
-ghost use Rattle.cp_lock.specs.declared.outcome.Released.TheVariants as released;
 ghost use Rattle.cp_lock.specs.Tables.{MakesTable, AreThere};
-ghost use Rattle.cp_lock.specs.Outcomes.{IsLockError, IsReleased, IsTaken, owner_of};
+ghost use Rattle.cp_lock.specs.Outcomes.{IsLockError, owner_of};
 
 use crate::close::{free_rows, names_held};
-use crate::meet::{self, Asked, MOST_ROWS, Step};
-use crate::outcome::{LockError, Released, Taken};
+use crate::error::LockError;
+use crate::meet::{self, Asked, Step};
 use crate::rows::{are_whole, put_row, write_row};
 use crate::session_set::SessionSet;
+use cp_base::limits::MOST_ROWS;
 use cp_base::{Items, Name, NoMemory};
-use cp_group_state::{Holder, LockRow};
+use cp_group_state::{Holder, LockRow, Released, Taken};
 use std::alloc::Global;
 use std::collections::BTreeMap;
 use std::marker::Model;
@@ -75,7 +76,7 @@ impl Locks {
         limit: u32,
     ) -> Result<Taken, LockError>
         ensures rows { OnOk result (self.new ≡ (acquired self.old index name.now who.now limit).rows) }
-        ensures taken { IfOk result (λ taken. IsTaken taken (acquired self.old index name.now who.now limit).taken) }
+        ensures taken { IfOk result (λ taken. (acquired self.old index name.now who.now limit).taken ≡ Some taken) }
         ensures error { IfErr result (λ error. IsLockError error (acquired self.old index name.now who.now limit).taken) }
         ensures same { OnErr result (self.new ≡ self.old) }
     {
@@ -102,8 +103,8 @@ impl Locks {
     #[tactic(auto, using(crate::proofs::Standing::put_there))]
     pub fn release(&mut self, name: &Name, who: &Holder) -> Released
         ensures rows { self.new ≡ (released_by self.old name.now who.now).rows }
-        ensures there { result ≡ released.Freed → IsSome (find name_cmp self.new name.now) }
-        ensures released { IsReleased result (released_by self.old name.now who.now).released }
+        ensures there { result ≡ Freed → IsSome (find name_cmp self.new name.now) }
+        ensures released { result ≡ (released_by self.old name.now who.now).released }
     {
         match meet::meet_release(&self.rows, name, who) {
             Step::Not => Released::NotOwner,

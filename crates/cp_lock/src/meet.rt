@@ -5,15 +5,10 @@ ghost use Rattle.cp_group_state.specs.Locks.{free_lock, held_once, is_free, is_h
 ghost use Rattle.cp_group_state.specs.Invariants.{IsHeldOrFree};
 ghost use Rattle.cp_lock.specs.Meetings.{IsAgain, IsAsked, IsStep};
 
+use cp_base::limits::{MOST_HOLDS, MOST_ROWS};
 use cp_base::{Name, ThreadNo};
 use cp_group_state::{Holder, LockRow};
 use std::collections::BTreeMap;
-
-/// The most rows of a table.
-pub const MOST_ROWS: u32 = 10_000;
-
-/// The most holds where a call sets no limit of its own.
-const MOST_HOLDS: u32 = 2_147_483_647;
 
 /// What an acquire meets.
 pub enum Asked {

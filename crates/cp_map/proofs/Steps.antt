@@ -15,7 +15,8 @@ use Rattle.cp_group_state.specs.Rows.{find, put, pair_cmp}
 use Rattle.cp_group_state.specs.Invariants.{IsRising}
 use Rattle.cp_group_state.specs.Maps.{Effect, Stays, Sets, Goes, Pairs, MapStep, has_value, key_of, with_effect, map_effect, map_answer, map_step}
 use Rattle.cp_map.specs.Pairs.{takes_away, value_set, step_at}
-use Rattle.cp_rows.proofs.Changes.{put_there, rises_one}
+use Rattle.cp_rows.proofs.Ordered.{put_there}
+use Rattle.cp_rows.proofs.Changes.{rises_one}
 
 pair_total : IsTotalOrder pair_cmp
 pair_total = then_total (on_total (λ (k : List ℕ × List ℕ). k.0) nat_list_cmp_total) (on_total (λ (k : List ℕ × List ℕ). k.1) nat_list_cmp_total)

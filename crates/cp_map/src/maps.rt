@@ -8,9 +8,10 @@ ghost use Rattle.cp_group_state.specs.Maps.{Sets, key_of, map_effect, map_answer
 ghost use Rattle.cp_map.specs.Pairs.{takes_away, value_set, step_at};
 
 use crate::Key;
+use cp_base::limits::MOST_ROWS;
 use cp_base::{Items, Name, NoMemory};
 use cp_ops::{Answer, MapOp};
-use cp_rows::{MOST, from_rows};
+use cp_rows::from_rows;
 use std::alloc::Global;
 use std::collections::BTreeMap;
 use std::marker::Model;
@@ -173,8 +174,8 @@ fn make_pair(
     ensures answer { IfOk result (λ given. given ≡ (with_effect pairs.old.entries place (Sets value) answer).answer) }
     ensures err { OnErr result (pairs.new.entries ≡ pairs.old.entries) }
 {
-    if pairs.len() >= MOST as usize {
-        return Ok(Answer::TableFull(MOST));
+    if pairs.len() >= MOST_ROWS as usize {
+        return Ok(Answer::TableFull(MOST_ROWS));
     }
     pairs.insert(place, value)?;
     Ok(answer)

@@ -3,9 +3,10 @@ ghost use Rattle.std.specs.Prelude.{◌≡◌, [], is_some, IfOk, OnOk, OnErr, i
 ghost use Rattle.cp_group_state.specs.Rows.{find, put, has_room, most, object_cmp};
 ghost use Rattle.cp_group_state.specs.Invariants.{IsRising};
 
+use cp_base::limits::MOST_ROWS;
 use cp_base::{Items, Name, NoMemory};
 use cp_ops::Kind;
-use cp_rows::{MOST, from_rows};
+use cp_rows::from_rows;
 use std::alloc::Global;
 use std::collections::BTreeMap;
 use std::marker::Model;
@@ -99,7 +100,7 @@ impl Gone {
         ensures err { OnErr result (self.new ≡ self.old) }
     {
         let object = (name.clone()?, kind);
-        if self.objects.len() >= MOST as usize && !has(&self.objects, &object) {
+        if self.objects.len() >= MOST_ROWS as usize && !has(&self.objects, &object) {
             return Ok(false);
         }
         put(&mut self.objects, object)?;

@@ -60,7 +60,7 @@ impl GroupMachine {
         entry: &[u8],
         out: &mut Items<(Invocation, Answer)>,
     ) -> Result<(), NoMemory>
-        requires { index ≤ 2 ^ 62 }
+        requires { index ≤ LAST_NUMBER }
         ensures view { OnOk result (self.new ≡ (step self.old index entry.now).view) }
         ensures answers { OnOk result (out.new ≡ out.old ++ (step self.old index entry.now).answers) }
         ensures fit { OnOk result (AnswersFit (step self.old index entry.now).answers) }

@@ -47,45 +47,47 @@ pub(crate) fn semaphores_of(
     Ok(Semaphores::from_maps(alloc, rows, holdings))
 }
 
+/// The rows of the objects of a group, list by list.
+#[derive(Debug, Drop)]
+pub(crate) struct ObjectLists {
+    pub locks: Items<(Name, LockRow)>,
+    pub semaphores: Items<((Name, Kind), SemaphoreRow)>,
+    pub holdings: Items<((u64, Name), u64)>,
+    pub latches: Items<(Name, LatchRow)>,
+    pub longs: Items<(Name, i64)>,
+    pub refs: Items<(Name, Option<Items<u8>>)>,
+    pub maps: Items<((Name, Key), Items<u8>)>,
+    pub gone: Items<((Name, Kind), ())>,
+}
+
 /// The tables of these objects.
-pub(crate) fn objects_of(
-    alloc: Global,
-    locks: Items<(Name, LockRow)>,
-    semaphores: Items<((Name, Kind), SemaphoreRow)>,
-    holdings: Items<((u64, Name), u64)>,
-    latches: Items<(Name, LatchRow)>,
-    longs: Items<(Name, i64)>,
-    refs: Items<(Name, Option<Items<u8>>)>,
-    maps: Items<((Name, Key), Items<u8>)>,
-    gone: Items<((Name, Kind), ())>,
-) -> Result<ObjectTables, NoMemory>
-    requires locks { lock_tables.IsTable locks }
-    requires semaphores { semaphore_tables.IsSound (record { rows = semaphores; holdings = holdings }) }
-    requires some { HoldSome holdings }
-    requires latches { IsRising name_cmp latches }
-    requires rounds { AreRounds latches }
-    requires longs { IsRising name_cmp longs }
-    requires refs { IsRising name_cmp refs }
-    requires maps { IsRising pair_cmp maps }
-    requires gone { IsRising object_cmp gone }
+pub(crate) fn objects_of(alloc: Global, rows: ObjectLists) -> Result<ObjectTables, NoMemory>
+    requires locks { lock_tables.IsTable rows.locks }
+    requires semaphores { semaphore_tables.IsSound (record { rows = rows.semaphores; holdings = rows.holdings }) }
+    requires some { HoldSome rows.holdings }
+    requires latches { IsRising name_cmp rows.latches }
+    requires rounds { AreRounds rows.latches }
+    requires longs { IsRising name_cmp rows.longs }
+    requires refs { IsRising name_cmp rows.refs }
+    requires maps { IsRising pair_cmp rows.maps }
+    requires gone { IsRising object_cmp rows.gone }
     ensures { IfOk result (λ objects. objects ≡ record {
-      locks = locks;
-      semaphores = record { rows = semaphores; holdings = holdings };
-      latches = latches;
-      longs
-          = longs;
-      refs = refs;
-      maps = maps;
-      gone = gone;
+      locks = rows.locks;
+      semaphores = record { rows = rows.semaphores; holdings = rows.holdings };
+      latches = rows.latches;
+      longs = rows.longs;
+      refs = rows.refs;
+      maps = rows.maps;
+      gone = rows.gone;
     }) }
 {
     Ok(ObjectTables {
-        locks: locks_of(alloc, locks)?,
-        semaphores: semaphores_of(alloc, semaphores, holdings)?,
-        latches: Latches::from_rows(alloc, latches)?,
-        longs: Longs::from_rows(alloc, longs)?,
-        refs: Refs::from_rows(alloc, refs)?,
-        maps: Maps::from_rows(alloc, maps)?,
-        gone: Gone::from_rows(alloc, gone)?,
+        locks: locks_of(alloc, rows.locks)?,
+        semaphores: semaphores_of(alloc, rows.semaphores, rows.holdings)?,
+        latches: Latches::from_rows(alloc, rows.latches)?,
+        longs: Longs::from_rows(alloc, rows.longs)?,
+        refs: Refs::from_rows(alloc, rows.refs)?,
+        maps: Maps::from_rows(alloc, rows.maps)?,
+        gone: Gone::from_rows(alloc, rows.gone)?,
     })
 }

@@ -6,7 +6,7 @@ ghost use Rattle.cp_session.specs.Tables as sessions;
 ghost use Rattle.cp_group_ranges.specs.States.{IsSound};
 ghost use Rattle.cp_state_bytes.specs.GroupRows.{state_of};
 
-use crate::objects::objects_of;
+use crate::objects::{ObjectLists, objects_of};
 use cp_base::{Items, NoMemory};
 use cp_group_state::{MemoryRow, SessionRow, Waiter};
 use cp_group_tables::GroupTables;
@@ -57,14 +57,16 @@ pub fn tables_of(alloc: Global, rows: GroupRows) -> Result<GroupTables, NoMemory
     let sessions = sessions_of(alloc, rows.sessions)?;
     let objects = objects_of(
         alloc,
-        rows.locks,
-        rows.semaphores,
-        rows.holdings,
-        rows.latches,
-        rows.longs,
-        rows.refs,
-        rows.maps,
-        rows.gone,
+        ObjectLists {
+            locks: rows.locks,
+            semaphores: rows.semaphores,
+            holdings: rows.holdings,
+            latches: rows.latches,
+            longs: rows.longs,
+            refs: rows.refs,
+            maps: rows.maps,
+            gone: rows.gone,
+        },
     )?;
     let waits = waits_of(alloc, rows.waiters)?;
     let memory = memory_of(alloc, rows.memory)?;

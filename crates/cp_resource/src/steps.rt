@@ -1,5 +1,6 @@
 //! What the bytes of an entry do to the tables of a group.
-ghost use Rattle.std.specs.Prelude.{◌≡◌, ◌++◌, ◌≤◌, ◌^◌, OnOk, IfOk};
+ghost use Rattle.std.specs.Prelude.{◌≡◌, ◌++◌, ◌≤◌, OnOk, IfOk};
+ghost use Rattle.cp_base.specs.declared.limits.TheConstants.{LAST_NUMBER};
 ghost use Rattle.cp_ops.specs.Entries.{entry_grammar};
 ghost use Rattle.cp_ops.specs.Ops.{op_grammar};
 ghost use Rattle.cp_machine.specs.Machines.{AnswersFit, LookFits};
@@ -25,7 +26,7 @@ fn apply_entry(
     entry: &Entry,
     out: &mut Items<(Invocation, Answer)>,
 ) -> Result<(), NoMemory>
-    requires index { index ≤ 2 ^ 62 }
+    requires index { index ≤ LAST_NUMBER }
     requires fits { entry_grammar.Fits entry.now }
     requires sound { IsSound tables.old }
     ensures view { OnOk result (tables.new ≡ (apply index entry.now tables.old).state) }
@@ -45,7 +46,7 @@ pub(crate) fn apply_bytes(
     bytes: &[u8],
     out: &mut Items<(Invocation, Answer)>,
 ) -> Result<(), NoMemory>
-    requires index { index ≤ 2 ^ 62 }
+    requires index { index ≤ LAST_NUMBER }
     requires sound { IsSound tables.old }
     ensures view { OnOk result (tables.new ≡ (step tables.old index bytes.now).view) }
     ensures answers { OnOk result (out.new ≡ out.old ++ (step tables.old index bytes.now).answers) }

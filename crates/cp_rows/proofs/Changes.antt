@@ -1,14 +1,13 @@
 -- Changes of rows as an ordered map makes them.
-use Rattle.std.proofs.Common.{◌≡◌, List, [], ◌∷◌, ◌++◌, Some, None, refl, ap, sym, ◌∙◌, subst, append_assoc, cond}
+use Rattle.std.proofs.Common.{◌≡◌, List, [], ◌∷◌, ◌++◌, refl, ap, sym, ◌∙◌, subst, append_assoc}
 use Rattle.std.specs.declared.cmp.Ordering.{Ordering}
-use Rattle.std.specs.declared.cmp.Ordering.TheVariants.{Less, Equal, Greater}
-use Rattle.std.specs.Ordering.{match_ordering, is_eq, ordering_reverse}
+use Rattle.std.specs.declared.cmp.Ordering.TheVariants.{Less, Greater}
+use Rattle.std.specs.Ordering.{ordering_reverse}
 use Rattle.std.specs.Cmp.{IsTotalOrder}
-use Rattle.std.specs.BTreeMap.{is_at}
 use Rattle.std.specs.List.{AllByRecursion}
-use Rattle.std.specs.Map.{keys_of, set_value}
+use Rattle.std.specs.Map.{keys_of}
 use Rattle.std.specs.List.Sorted.{IsStrictlySortedBy}
-use Rattle.cp_group_state.specs.Rows.{find, put}
+use Rattle.cp_group_state.specs.Rows.{put}
 use Rattle.cp_group_state.specs.Invariants.{IsRising}
 
 module _ {K : Type 0} (cmp : K → K → Ordering) (total : IsTotalOrder cmp) where
@@ -32,29 +31,6 @@ module _ {K X : Type 0} (cmp : K → K → Ordering) (total : IsTotalOrder cmp) 
   goes_on stand next left rest rows k x put rising all first =
       let whole : stand ++ (k, x) ∷ rest ≡ rows = ap (λ (r : List (K × X)). stand ++ r) (sym first) ∙ all in
       ap (λ (r : List (K × X)). r ++ rest) (put rest (subst (λ r. IsRising cmp r) (sym whole) rising)) ∙ append_assoc stand ((k, x) ∷ []) rest ∙ whole
-
-  above-all : (a b : K) (rows : List (K × X)) → cmp a b ≡ Less → AllByRecursion (λ y. cmp b y ≡ Less) (keys_of rows) → AllByRecursion (λ y. cmp a y ≡ Less) (keys_of rows)
-  above-all a b [] l all = tt
-  above-all a b (e ∷ es) l all = (total.trans a b e.0 l all.0, above-all a b es l all.1)
-
-  -- nothing stands under a key below all others
-  less-none : (k : K) (rows : List (K × X)) → AllByRecursion (λ y. cmp k y ≡ Less) (keys_of rows) → find cmp rows k ≡ None
-  less-none k [] all = refl
-  less-none k (e ∷ es) all = rw all.0 (less-none k es all.1)
-
-  none-some : (x : X) → None ≡ Some x → ⊥
-  none-some x e = cc
-
-  -- a row that is there is put by a write
-  pub put_there : (rows : List (K × X)) (k : K) (old x : X) → IsRising cmp rows → find cmp rows k ≡ Some old → set_value (is_at (cmp k)) rows x ≡ put cmp rows k x
-  unfolding IsStrictlySortedBy
-  put_there [] k old x h there = cc
-  put_there (e ∷ es) k old x h there = by (put_there es k old x h.1) (cmp k e.0) refl there where
-    by : (find cmp es k ≡ Some old → set_value (is_at (cmp k)) es x ≡ put cmp es k x) → (o : Ordering) → cmp k e.0 ≡ o → cond (is_eq o) (Some e.1) (find cmp es k) ≡ Some old
-        → cond (is_eq o) ((e.0, x) ∷ es) (e ∷ set_value (is_at (cmp k)) es x) ≡ match_ordering o ((k, x) ∷ e ∷ es) ((e.0, x) ∷ es) (e ∷ put cmp es k x)
-    by rest Less i there = absurd (none-some old (sym (less-none k es (above-all k e.0 es i h.0)) ∙ there))
-    by rest Equal i there = refl
-    by rest Greater i there = ap (λ (r : List (K × X)). e ∷ r) (rest there)
 
 -- one row that is put behind none rises
 pub rises_one : {K X : Type 0} (cmp : K → K → Ordering) (none rows : List (K × X)) (e : K × X) → none ≡ [] → rows ≡ none ++ e ∷ [] → IsRising cmp rows

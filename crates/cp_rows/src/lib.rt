@@ -5,4 +5,4 @@ mod changing;
 mod rows;
 
 pub use changing::{PushError, push_row, put_row, rising_rows, write_row};
-pub use rows::{MOST, from_rows};
+pub use rows::from_rows;

@@ -6,9 +6,6 @@ use cp_base::{Items, NoMemory};
 use std::alloc::Global;
 use std::collections::BTreeMap;
 
-/// The most rows of a table.
-pub const MOST: u32 = 10_000;
-
 /// Inserts a row whose key is above all that stand, in front of any rows that may come.
 #[tactic(auto, using(crate::proofs::Changes::put_last))]
 fn append<K: Ord + Drop, V: Drop>(map: &mut BTreeMap<K, V>, key: K, row: V) -> Result<(), NoMemory>

@@ -8,13 +8,12 @@ mod holdings;
 mod keys;
 mod left;
 mod names;
-mod outcome;
 mod rows;
 mod semaphores;
 mod serving;
 mod steps;
 mod tables;
 
+pub use cp_group_state::SemOutcome;
 pub use keys::{concerned, left_by};
-pub use outcome::SemOutcome;
 pub use semaphores::{Semaphores, set_holding};

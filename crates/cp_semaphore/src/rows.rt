@@ -2,6 +2,7 @@
 ghost use Rattle.std.specs.Prelude.{◌≡◌, is_some, IsSome, OnOk, OnErr};
 ghost use Rattle.cp_group_state.specs.Rows.{find, put, without, has_room, most, object_cmp};
 
+use cp_base::limits::MOST_ROWS;
 use cp_base::{Name, NoMemory};
 use cp_group_state::SemaphoreRow;
 use cp_ops::Kind;
@@ -29,7 +30,7 @@ pub(crate) fn has_row(rows: &BTreeMap<(Name, Kind), SemaphoreRow>, key: &(Name, 
 pub(crate) fn has_room(rows: &BTreeMap<(Name, Kind), SemaphoreRow>, key: &(Name, Kind)) -> bool
     ensures { result ≡ has_room object_cmp most rows.now.entries key.now }
 {
-    has_row(rows, key) || rows.len() < 10000
+    has_row(rows, key) || rows.len() < MOST_ROWS as usize
 }
 
 /// Puts a row, or leaves the rows.

@@ -3,15 +3,14 @@ ghost use Rattle.std.specs.Prelude.{◌≡◌, ◌<◌, ◌^◌, [], IfOk, OnOk,
 ghost use Rattle.cp_group_state.specs.Semaphores.{all_back, sem_destroyed, sem_step, set_held, take_all};
 ghost use Rattle.cp_semaphore.specs.Fitting.{Fits};
 ghost use Rattle.cp_semaphore.specs.Nested.{flat, IsNested};
-ghost use Rattle.cp_semaphore.specs.Outcomes.{IsOutcome, available_of};
+ghost use Rattle.cp_semaphore.specs.Outcomes.{available_of};
 ghost use Rattle.cp_semaphore.specs.Serving.{AreServed};
 ghost use Rattle.cp_semaphore.specs.Tables.{IsSound};
 
-use crate::outcome::SemOutcome;
 use crate::tables::{self, Tables};
 use crate::{closing, holdings, rows, serving, steps};
 use cp_base::{Name, NoMemory};
-use cp_group_state::{SemaphoreRow, Waiter};
+use cp_group_state::{SemOutcome, SemaphoreRow, Waiter};
 use cp_ops::{Kind, SemOp};
 use std::alloc::Global;
 use std::collections::BTreeMap;
@@ -132,8 +131,7 @@ impl Semaphores {
     /// Does an operation to a semaphore. Where memory runs out, the table stays.
     pub fn apply(&mut self, kind: Kind, name: &Name, op: &SemOp) -> Result<SemOutcome, NoMemory>
         ensures after { OnOk result (self.new ≡ (sem_step (name.now, kind) op.now self.old).after) }
-        ensures outcome { IfOk result (λ outcome. IsOutcome outcome (sem_step (name.now, kind) op.now self.old).outcome
-            (name.now, kind) self.new) }
+        ensures outcome { IfOk result (λ outcome. outcome ≡ (sem_step (name.now, kind) op.now self.old).outcome) }
         ensures err { OnErr result (self.new ≡ self.old) }
     {
         let name = name.clone()?;

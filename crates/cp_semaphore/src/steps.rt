@@ -6,17 +6,14 @@ ghost use Rattle.cp_group_state.specs.Rows.{find, object_cmp};
 ghost use Rattle.cp_group_state.specs.Semaphores.{is_held, raise_total, release_held, init, sem_step_at, sem_step_absent, sem_step};
 ghost use Rattle.cp_semaphore.specs.Nested.{IsNested};
 ghost use Rattle.cp_semaphore.specs.Tables.{seen, IsMet, IsTable};
-ghost use Rattle.cp_semaphore.specs.Outcomes.{IsOutcome};
 
-use crate::outcome::SemOutcome;
 use crate::tables::{self, Tables};
 use crate::{amounts, holdings, rows};
+use cp_base::limits::{MOST_PERMITS, MOST_ROWS};
 use cp_base::{Name, NoMemory};
-use cp_group_state::SemaphoreRow;
+use cp_group_state::{SemOutcome, SemaphoreRow};
 use cp_ops::{Answer, Argument, Kind, SemOp};
 
-/// The greatest total that permits may be added up to.
-const GREATEST: i64 = 2147483647;
 /// What may stand available at least, by a reduction.
 const LEAST: i64 = -2147483648;
 
@@ -24,10 +21,10 @@ const LEAST: i64 = -2147483648;
 fn raise(tables: &mut Tables, key: &(Name, Kind), row: SemaphoreRow, permits: u32) -> SemOutcome
     requires { IsMet tables.old key.now row }
     ensures after { seen tables.new ≡ (raise_total key.now row permits (seen tables.old)).after }
-    ensures outcome { IsOutcome result (raise_total key.now row permits (seen tables.old)).outcome key.now (seen tables.new) }
+    ensures outcome { result ≡ (raise_total key.now row permits (seen tables.old)).outcome }
     ensures nested { IsNested tables.new.holdings.entries }
 {
-    if row.total + i64::from(permits) > GREATEST {
+    if row.total + i64::from(permits) > i64::from(MOST_PERMITS) {
         return SemOutcome::Done(Answer::BadArgument(Argument::Overflow));
     }
     tables::grow(tables, key, row, permits);
@@ -44,8 +41,7 @@ fn release_held(
 ) -> Result<SemOutcome, NoMemory>
     requires { IsMet tables.old key.now row }
     ensures after { OnOk result (seen tables.new ≡ (release_held key.now row session permits (seen tables.old)).after) }
-    ensures outcome { IfOk result (λ o. IsOutcome o (release_held key.now row session permits (seen tables.old)).outcome key.now
-        (seen tables.new)) }
+    ensures outcome { IfOk result (λ o. o ≡ (release_held key.now row session permits (seen tables.old)).outcome) }
     ensures err { OnErr result (seen tables.new ≡ seen tables.old) }
     ensures nested { IsNested tables.new.holdings.entries }
 {
@@ -69,8 +65,7 @@ fn release(
 ) -> Result<SemOutcome, NoMemory>
     requires { IsMet tables.old key.now row }
     ensures after { OnOk result (seen tables.new ≡ (sem_step_at key.now row (sem.Release session permits) (seen tables.old)).after) }
-    ensures outcome { IfOk result (λ o. IsOutcome o (sem_step_at key.now row (sem.Release session permits) (seen tables.old)).outcome
-        key.now (seen tables.new)) }
+    ensures outcome { IfOk result (λ o. o ≡ (sem_step_at key.now row (sem.Release session permits) (seen tables.old)).outcome) }
     ensures err { OnErr result (seen tables.new ≡ seen tables.old) }
     ensures nested { IsNested tables.new.holdings.entries }
 {
@@ -92,10 +87,10 @@ fn acquire(
     permits: u32,
 ) -> Result<SemOutcome, NoMemory>
     requires { IsMet tables.old key.now row }
-    ensures after { OnOk result (seen tables.new ≡ (sem_step_at key.now row (sem.Acquire session permits wish.NoLimit)
-        (seen tables.old)).after) }
-    ensures outcome { IfOk result (λ o. IsOutcome o (sem_step_at key.now row (sem.Acquire session permits wish.NoLimit)
-        (seen tables.old)).outcome key.now (seen tables.new)) }
+    ensures after { OnOk result
+        (seen tables.new ≡ (sem_step_at key.now row (sem.Acquire session permits wish.NoLimit) (seen tables.old)).after) }
+    ensures outcome { IfOk result
+        (λ o. o ≡ (sem_step_at key.now row (sem.Acquire session permits wish.NoLimit) (seen tables.old)).outcome) }
     ensures err { OnErr result (seen tables.new ≡ seen tables.old) }
     ensures nested { IsNested tables.new.holdings.entries }
 {
@@ -116,8 +111,7 @@ fn drain(
 ) -> Result<SemOutcome, NoMemory>
     requires { IsMet tables.old key.now row }
     ensures after { OnOk result (seen tables.new ≡ (sem_step_at key.now row (sem.Drain session) (seen tables.old)).after) }
-    ensures outcome { IfOk result (λ o. IsOutcome o (sem_step_at key.now row (sem.Drain session) (seen tables.old)).outcome key.now
-        (seen tables.new)) }
+    ensures outcome { IfOk result (λ o. o ≡ (sem_step_at key.now row (sem.Drain session) (seen tables.old)).outcome) }
     ensures err { OnErr result (seen tables.new ≡ seen tables.old) }
     ensures nested { IsNested tables.new.holdings.entries }
 {
@@ -137,8 +131,7 @@ fn reduce(
 ) -> SemOutcome
     requires { IsMet tables.old key.now row }
     ensures after { seen tables.new ≡ (sem_step_at key.now row (sem.Reduce session permits) (seen tables.old)).after }
-    ensures outcome { IsOutcome result (sem_step_at key.now row (sem.Reduce session permits) (seen tables.old)).outcome key.now
-        (seen tables.new) }
+    ensures outcome { result ≡ (sem_step_at key.now row (sem.Reduce session permits) (seen tables.old)).outcome }
     ensures nested { IsNested tables.new.holdings.entries }
 {
     if row.available - i64::from(permits) < LEAST {
@@ -157,7 +150,7 @@ fn step_at(
 ) -> Result<SemOutcome, NoMemory>
     requires { IsMet tables.old key.now row }
     ensures after { OnOk result (seen tables.new ≡ (sem_step_at key.now row op.now (seen tables.old)).after) }
-    ensures outcome { IfOk result (λ o. IsOutcome o (sem_step_at key.now row op.now (seen tables.old)).outcome key.now (seen tables.new)) }
+    ensures outcome { IfOk result (λ o. o ≡ (sem_step_at key.now row op.now (seen tables.old)).outcome) }
     ensures err { OnErr result (seen tables.new ≡ seen tables.old) }
     ensures nested { IsNested tables.new.holdings.entries }
 {
@@ -176,12 +169,12 @@ fn step_at(
 fn init(tables: &mut Tables, key: (Name, Kind), permits: u32) -> Result<SemOutcome, NoMemory>
     requires { IsNested tables.old.holdings.entries }
     ensures after { OnOk result (seen tables.new ≡ (init key permits (seen tables.old)).after) }
-    ensures outcome { IfOk result (λ o. IsOutcome o (init key permits (seen tables.old)).outcome key (seen tables.new)) }
+    ensures outcome { IfOk result (λ o. o ≡ (init key permits (seen tables.old)).outcome) }
     ensures err { OnErr result (seen tables.new ≡ seen tables.old) }
     ensures nested { IsNested tables.new.holdings.entries }
 {
     if !rows::has_room(&tables.rows, &key) {
-        return Ok(SemOutcome::Done(Answer::TableFull(10000)));
+        return Ok(SemOutcome::Done(Answer::TableFull(MOST_ROWS)));
     }
     let row = SemaphoreRow {
         total: i64::from(permits),
@@ -197,7 +190,7 @@ fn init(tables: &mut Tables, key: (Name, Kind), permits: u32) -> Result<SemOutco
 fn step_absent(tables: &mut Tables, key: (Name, Kind), op: &SemOp) -> Result<SemOutcome, NoMemory>
     requires { IsNested tables.old.holdings.entries }
     ensures after { OnOk result (seen tables.new ≡ (sem_step_absent key op.now (seen tables.old)).after) }
-    ensures outcome { IfOk result (λ o. IsOutcome o (sem_step_absent key op.now (seen tables.old)).outcome key (seen tables.new)) }
+    ensures outcome { IfOk result (λ o. o ≡ (sem_step_absent key op.now (seen tables.old)).outcome) }
     ensures err { OnErr result (seen tables.new ≡ seen tables.old) }
     ensures nested { IsNested tables.new.holdings.entries }
 {
@@ -221,7 +214,7 @@ pub(crate) fn step(
 ) -> Result<SemOutcome, NoMemory>
     requires { IsTable tables.old }
     ensures after { OnOk result (seen tables.new ≡ (sem_step key op.now (seen tables.old)).after) }
-    ensures outcome { IfOk result (λ o. IsOutcome o (sem_step key op.now (seen tables.old)).outcome key (seen tables.new)) }
+    ensures outcome { IfOk result (λ o. o ≡ (sem_step key op.now (seen tables.old)).outcome) }
     ensures err { OnErr result (seen tables.new ≡ seen tables.old) }
     ensures nested { IsNested tables.new.holdings.entries }
 {

@@ -1,10 +1,9 @@
 //! Permits that go and come.
-ghost use Rattle.std.specs.Prelude.{◌≡◌, ◌&&◌, not, bytes_eq, ◌^◌, ◌<◌, ◌≤◌, ◌+ℤ◌, true, false, pos, neg_ℤ, Some, IfOk, OnOk, OnErr};
+ghost use Rattle.std.specs.Prelude.{◌≡◌, ◌&&◌, not, bytes_eq, ◌^◌, ◌<◌, ◌≤◌, ◌+ℤ◌, true, false, pos, neg_ℤ, IfOk, OnOk, OnErr};
 ghost use Rattle.std.specs.List.{filter};
 ghost use Rattle.cp_group_state.specs.Semaphores.{is_held, held, take, give_back, change_total, sem_destroyed};
 ghost use Rattle.cp_semaphore.specs.Nested.{flat, IsNested};
 ghost use Rattle.cp_semaphore.specs.Tables.{seen, IsMet, IsTable};
-ghost use Rattle.cp_semaphore.specs.Outcomes.{available_of};
 
 use crate::{amounts, holdings, rows};
 use cp_base::{Name, NoMemory};
@@ -99,7 +98,7 @@ pub(crate) fn give_back(
     requires met { IsMet tables.old key.now row }
     requires holds { permits ≤ held (flat tables.old.holdings.entries) session key.now.0 }
     ensures ok { OnOk result (seen tables.new ≡ give_back key.now row session permits (seen tables.old)) }
-    ensures available { IfOk result (λ available. available_of key.now (seen tables.new) ≡ Some available) }
+    ensures available { IfOk result (λ available. available ≡ row.available +ℤ pos permits) }
     ensures err { OnErr result (seen tables.new ≡ seen tables.old) }
     ensures nested { IsNested tables.new.holdings.entries }
 {
@@ -123,7 +122,6 @@ pub(crate) fn give_back(
 pub(crate) fn grow(tables: &mut Tables, key: &(Name, Kind), row: SemaphoreRow, permits: u32)
     requires { IsMet tables.old key.now row }
     ensures after { seen tables.new ≡ change_total key.now row (pos permits) (seen tables.old) }
-    ensures available { available_of key.now (seen tables.new) ≡ Some (row.available +ℤ pos permits) }
     ensures nested { IsNested tables.new.holdings.entries }
 {
     rows::write(&mut tables.rows, key, amounts::grown(row, permits));
@@ -149,8 +147,8 @@ fn forget_held(
     key: &(Name, Kind),
 ) -> Result<(), NoMemory>
     requires { IsNested holdings.old.entries }
-    ensures ok { OnOk result (flat holdings.new.entries ≡ filter (λ e. not (is_held key.now.1 && bytes_eq key.now.0 e.0.1))
-        (flat holdings.old.entries)) }
+    ensures ok { OnOk result
+        (flat holdings.new.entries ≡ filter (λ e. not (is_held key.now.1 && bytes_eq key.now.0 e.0.1)) (flat holdings.old.entries)) }
     ensures err { OnErr result (flat holdings.new.entries ≡ flat holdings.old.entries) }
     ensures nested { IsNested holdings.new.entries }
 {

@@ -18,7 +18,7 @@ use Rattle.cp_group_state.specs.Invariants.{IsRising}
 use Rattle.cp_group_state.proofs.Keyed.{number_key, same-client, equal_is}
 use Rattle.cp_group_state.proofs.Rising.{less-none}
 use Rattle.cp_session.specs.Index.{IsIndexed, client_cmp}
-use Rattle.cp_session.specs.Creation.{Number, created, created_from}
+use Rattle.cp_session.specs.Creation.{created, created_from}
 
 -- whether the row stands, and is the client's
 abbrev Stands : List (ℕ × SessionRow) → ClientId → ℕ × SessionRow → Type 0
@@ -60,11 +60,11 @@ module _ (rows : List (ℕ × SessionRow)) (numbers : List (ClientId × ℕ)) (c
       ap (find client_cmp numbers) (sym stands.1) ∙ indexed.are_named e.0 e.1 stands.0
 
   -- a client with a number has that session
-  pub created_again : (index n : ℕ) → find client_cmp numbers client ≡ Some n → created rows index client ≡ record { rows = rows; creation = Number n }
+  pub created_again : (index n : ℕ) → find client_cmp numbers client ≡ Some n → created rows index client ≡ record { rows = rows; number = Some n }
   created_again index n h = by (session_of rows client) refl where
-    by : (o : Option (ℕ × SessionRow)) → session_of rows client ≡ o → created_from rows index client o ≡ record { rows = rows; creation = Number n }
+    by : (o : Option (ℕ × SessionRow)) → session_of rows client ≡ o → created_from rows index client o ≡ record { rows = rows; number = Some n }
     by None none = absurd (no_true (sym (indexed.are_open client n h) ∙ none_open rows n client none))
-    by (Some e) there = ap (λ (m : ℕ). record { rows = rows; creation = Number m }) (same_Some e.0 n (sym (named e there) ∙ h))
+    by (Some e) there = ap (λ (m : ℕ). record { rows = rows; number = Some m }) (same_Some e.0 n (sym (named e there) ∙ h))
 
   -- one without has none
   pub session_none : find client_cmp numbers client ≡ None → session_of rows client ≡ None

@@ -12,7 +12,7 @@ use Rattle.cp_session.specs.Rule.{CreationsFollowTheRule, creation_answer}
 
 -- the outcome by what is created
 outcome_of : GroupState → Created → Outcome
-outcome_of s c = answered (creation_answer c.creation) (record s { sessions = c.rows })
+outcome_of s c = answered (creation_answer c.number) (record s { sessions = c.rows })
 
 choice : (s : GroupState) (b : Bool) (x y : Created) → cond b (outcome_of s x) (outcome_of s y) ≡ outcome_of s (cond b x y)
 choice s true x y = refl

@@ -1,5 +1,5 @@
 -- Creations are what the group's rule of sessions says.
-use Rattle.std.specs.Prelude.{◌≡◌, ℕ}
+use Rattle.std.specs.Prelude.{◌≡◌, ℕ, Option, Some, None}
 use Rattle.cp_base.specs.declared.identifier.Invocation.{Invocation}
 use Rattle.cp_answers.specs.declared.answer.Answer.{Answer}
 use Rattle.cp_answers.specs.declared.answer.Answer.TheVariants as answer
@@ -8,13 +8,13 @@ use Rattle.cp_group_state.specs.Rows.{most}
 use Rattle.cp_group_state.specs.GroupState.{GroupState}
 use Rattle.cp_group_state.specs.Outcomes.{answered}
 use Rattle.cp_group_state.specs.SessionRules.{session_rule}
-use Rattle.cp_session.specs.Creation.{Creation, Number, Full, created}
+use Rattle.cp_session.specs.Creation.{created}
 
-abbrev pub creation_answer : Creation → Answer
-creation_answer (Number n) = answer.Session n
-creation_answer Full = answer.TableFull most
+abbrev pub creation_answer : Option ℕ → Answer
+creation_answer (Some n) = answer.Session n
+creation_answer None = answer.TableFull most
 
 -- the rule of a call that asks for a session, by what is created
 abbrev pub CreationsFollowTheRule : Type 0
 CreationsFollowTheRule = (index : ℕ) (call : Invocation) (s : GroupState) → session_rule index call session.Open s
-    ≡ answered (creation_answer (created s.sessions index call.client).creation) (record s { sessions = (created s.sessions index call.client).rows })
+    ≡ answered (creation_answer (created s.sessions index call.client).number) (record s { sessions = (created s.sessions index call.client).rows })

@@ -5,11 +5,9 @@ ghost use Rattle.cp_group_state.specs.Rows.{find, put};
 ghost use Rattle.cp_group_state.specs.Sessions.{beaten};
 ghost use Rattle.cp_session.specs.Index.{Sets};
 
+use cp_base::limits::LAST_NUMBER;
 use cp_group_state::SessionRow;
 use std::collections::BTreeMap;
-
-/// The greatest version.
-const MOST: u64 = 1 << 62;
 
 /// The row with one beat more.
 pub fn beaten_row(row: &SessionRow) -> SessionRow
@@ -17,7 +15,7 @@ pub fn beaten_row(row: &SessionRow) -> SessionRow
 {
     SessionRow {
         client: row.client,
-        version: row.version.saturating_add(1).min(MOST),
+        version: row.version.saturating_add(1).min(LAST_NUMBER),
     }
 }
 

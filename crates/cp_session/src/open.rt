@@ -6,12 +6,10 @@ ghost use Rattle.cp_session.specs.Index.{IsIndexed, Sets, client_cmp};
 ghost use Rattle.cp_session.specs.Meetings.{IsMet};
 
 use crate::index::{name, number_of, unname};
+use cp_base::limits::MOST_ROWS;
 use cp_base::{ClientId, NoMemory};
 use cp_group_state::SessionRow;
 use std::collections::BTreeMap;
-
-/// The most sessions of a table.
-pub const MOST_ROWS: u32 = 10_000;
 
 /// Whether there is room for a session under this number.
 pub fn has_room_for(rows: &BTreeMap<u64, SessionRow>, number: u64) -> bool

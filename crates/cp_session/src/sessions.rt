@@ -1,12 +1,12 @@
 //! The table of sessions of a group.
-ghost use Rattle.std.specs.Prelude.{◌≡◌, [], ◌∷◌, not, is_some, IfErr, IfOk, OnErr, OnOk};
+ghost use Rattle.std.specs.Prelude.{◌≡◌, [], ◌∷◌, not, is_some, Some, IfErr, IfOk, OnErr, OnOk};
 ghost use Rattle.std.specs.List.{filter};
 ghost use Rattle.std.specs.Option.{option_map};
 ghost use Rattle.std.specs.Ordering.{nat_cmp};
 ghost use Rattle.cp_group_state.specs.Rows.{find};
 ghost use Rattle.cp_group_state.specs.Sessions.{is_among, is_open_for, unchanged_since};
 ghost use Rattle.cp_group_state.specs.Invariants.{IsRising, OneSession};
-ghost use Rattle.cp_session.specs.Creation.{IsCreated, IsSessionError, created};
+ghost use Rattle.cp_session.specs.Creation.{IsSessionError, created};
 ghost use Rattle.cp_session.specs.Beats.{version_after, with_beat};
 ghost use Rattle.cp_session.specs.Tables.{MakesTable, IsTable};
 
@@ -14,8 +14,9 @@ use crate::beat::{beat_row, beaten_row};
 use crate::close::{close_each, close_one};
 use crate::error::SessionError;
 use crate::expire::unchanged;
-use crate::open::{MOST_ROWS, Met, meet, open_at};
+use crate::open::{Met, meet, open_at};
 use crate::restore::maps_of;
+use cp_base::limits::MOST_ROWS;
 use cp_base::{ClientId, Items, NoMemory};
 use cp_group_state::SessionRow;
 use std::alloc::Global;
@@ -77,8 +78,8 @@ impl Sessions {
     /// of another client that has this number gives way to it.
     pub fn create(&mut self, index: u64, client: &ClientId) -> Result<u64, SessionError>
         ensures rows { OnOk result (self.new ≡ (created self.old index client.now).rows) }
-        ensures number { IfOk result (λ number. IsCreated number (created self.old index client.now).creation) }
-        ensures error { IfErr result (λ error. IsSessionError error (created self.old index client.now).creation) }
+        ensures number { IfOk result (λ number. (created self.old index client.now).number ≡ Some number) }
+        ensures error { IfErr result (λ error. IsSessionError error (created self.old index client.now).number) }
         ensures same { OnErr result (self.new ≡ self.old) }
     {
         match meet(&self.rows, &self.numbers, index, client) {
@@ -118,6 +119,14 @@ impl Sessions {
         close_each(&mut self.rows, &mut self.numbers, sessions);
     }
 
+    /// The sessions that are named with the version that they have, in the order in which they are named.
+    pub fn unchanged(&self, pairs: &[(u64, u64)]) -> Result<Vec<u64>, NoMemory>
+        ensures { IfOk result (λ sessions. sessions.items ≡ unchanged_since self.now pairs.now) }
+    {
+        let sessions = unchanged(self.alloc, &self.rows, pairs)?;
+        Ok(sessions)
+    }
+
     /// The sessions that are named with the version that they have are closed, and answered in the order in which they
     /// are named.
     pub fn expire(&mut self, pairs: &[(u64, u64)]) -> Result<Vec<u64>, NoMemory>
@@ -125,7 +134,7 @@ impl Sessions {
         ensures rows { OnOk result (self.new ≡ filter (λ e. not (is_among (unchanged_since self.old pairs.now) e.0)) self.old) }
         ensures same { OnErr result (self.new ≡ self.old) }
     {
-        let closed = unchanged(self.alloc, &self.rows, pairs)?;
+        let closed = self.unchanged(pairs)?;
         self.close_all(&closed);
         Ok(closed)
     }

@@ -2,6 +2,7 @@
 use Rattle.std.specs.Prelude.{ℕ, ◌-◌, ◌^◌, ℤ, pos, neg_ℤ, Bool, ◌&&◌, List, Option, int_le}
 use Rattle.std.specs.Int.{w32}
 use Rattle.std.specs.Ordering.{nat_cmp}
+use Rattle.cp_base.specs.declared.limits.TheConstants.{MOST_COUNT}
 use Rattle.cp_base.specs.declared.identifier.Invocation.{Invocation}
 use Rattle.cp_grammar.specs.Grammar.{Grammar, always, checked, mapped, seq, ◌then◌}
 use Rattle.cp_grammar.specs.Fields.{byte, number, at_least, signed, optional}
@@ -68,7 +69,7 @@ counted_list so_far = listed (number w32 (most_counted - so_far)) (each invocati
 
 unfoldable pub latch_row : List (List ℕ × LatchRow) → Grammar ℕ (List ℕ × LatchRow)
 latch_row before = mapped (λ p. (p.0, record { round = p.1.0; count = p.1.1.0; counted = p.1.1.1 })) (λ e. (e.0, (e.1.round, (e.1.count, e.1.counted))))
-    (name_behind before then index then number w32 10000 then counted_list (counted_calls before))
+    (name_behind before then index then number w32 MOST_COUNT then counted_list (counted_calls before))
 
 unfoldable pub long_row : List (List ℕ × ℤ) → Grammar ℕ (List ℕ × ℤ)
 long_row before = name_behind before then signed

@@ -6,16 +6,12 @@ ghost use Rattle.cp_group_state.specs.Latches.{counted_calls};
 ghost use Rattle.cp_state_bytes.specs.Rows.{counted_list, latch_row};
 ghost use Rattle.cp_state_bytes.specs.Lists.{latch_list};
 
-use crate::lists::MOST_ROWS;
 use crate::rows::take_name_behind;
-use cp_base::limits::MOST_COUNT;
+use cp_base::limits::{MOST_COUNT, MOST_COUNTED, MOST_ROWS};
 use cp_base::{Invocation, Items, Name};
 use cp_grammar::{Stop, take_index, take_items, take_u32};
 use cp_group_state::LatchRow;
 use std::alloc::Global;
-
-/// The most counted calls of all latches together.
-const MOST_COUNTED: u32 = 100_000;
 
 /// The counted calls of a latch, where those before it have so many.
 #[tactic(auto, unfolding(crate::specs::Rows::counted_list))]
@@ -34,7 +30,7 @@ fn take_counted(
     bytes: &[u8],
 ) -> Result<(Items<Invocation>, &[u8]), Stop>
     ensures reads { Reads result ((counted_list so_far).reading bytes.now) }
-    ensures few { IfOk result (λ x. length x.0 ≤ 100000 - so_far) }
+    ensures few { IfOk result (λ x. length x.0 ≤ MOST_COUNTED - so_far) }
 {
     take_calls(alloc, so_far, bytes)
 }
@@ -49,7 +45,7 @@ fn take_latch<'a>(
 ) -> Result<((Name, LatchRow), &'a [u8]), Stop>
     requires { so_far ≡ counted_calls before.now }
     ensures reads { Reads result ((latch_row before.now).reading bytes.now) }
-    ensures few { IfOk result (λ x. length x.0.1.counted ≤ 100000 - so_far) }
+    ensures few { IfOk result (λ x. length x.0.1.counted ≤ MOST_COUNTED - so_far) }
 {
     let (name, rest) = take_name_behind(alloc, before, bytes)?;
     let (round, rest) = take_index(rest)?;

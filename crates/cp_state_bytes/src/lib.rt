@@ -25,8 +25,8 @@ pub use holdings::take_holdings;
 pub use latches::take_latches;
 pub use lent::LentState;
 pub use lists::{
-    MOST_ROWS, take_gone, take_locks, take_longs, take_memory, take_pairs, take_refs,
-    take_semaphores, take_sessions, take_waiters,
+    take_gone, take_locks, take_longs, take_memory, take_pairs, take_refs, take_semaphores,
+    take_sessions, take_waiters,
 };
 pub use reading::read;
 pub use row::{Row, take_rows};

@@ -4,15 +4,13 @@ ghost use Rattle.cp_state_bytes.specs.Lists.{session_list, lock_list, semaphore_
 
 use crate::row::take_rows;
 use crate::version::Version;
+use cp_base::limits::MOST_ROWS;
 use cp_base::{Items, Name};
 use cp_grammar::Stop;
 use cp_group_state::{LockRow, MemoryRow, SemaphoreRow, SessionRow, Waiter};
 use cp_map::Key;
 use cp_op_values::Kind;
 use std::alloc::Global;
-
-/// The most rows of a list that has a limit.
-pub const MOST_ROWS: u32 = 10_000;
 
 /// The sessions by rising number, and the bytes after them.
 #[tactic(auto, unfolding(crate::specs::Lists::session_list))]

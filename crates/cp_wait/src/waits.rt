@@ -17,6 +17,7 @@ ghost use Rattle.cp_wait.specs.Faults.{IsWaitFault, IsRowsFault, IsSeatFault};
 
 use crate::indexes::{self, Indexes};
 use crate::rows;
+use cp_base::limits::MOST_ROWS;
 use cp_base::{Invocation, Items, Name, NoMemory};
 use cp_group_state::Waiter;
 use cp_ops::Kind;
@@ -49,9 +50,6 @@ pub enum RowsError {
     #[error("no memory")]
     NoMemory,
 }
-
-/// How many calls may wait.
-const MOST: usize = 10000;
 
 /// The calls that wait, which contracts see as the list of their waiters in order of arrival. No two are of one call.
 #[derive(Drop)]
@@ -308,8 +306,8 @@ impl Waits {
         ensures err { OnErr result (self.new ≡ self.old) }
         ensures fault { IfErr result (λ e. IsWaitFault e self.old) }
     {
-        if self.rows.len() >= MOST {
-            return Err(WaitError::TableFull(MOST as u32));
+        if self.rows.len() >= MOST_ROWS as usize {
+            return Err(WaitError::TableFull(MOST_ROWS));
         }
         match enter(&mut self.rows, &mut self.indexes, waiter) {
             Ok(()) => Ok(()),

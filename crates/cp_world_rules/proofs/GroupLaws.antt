@@ -34,7 +34,9 @@ use Rattle.cp_group_state.specs.Latches.{latch_at}
 use Rattle.cp_group_state.specs.GroupState.{GroupState}
 use Rattle.cp_group_state.specs.Changes.{Change, end_all, for_each, stay}
 use Rattle.cp_group_state.specs.Serving.{serve, serve_from}
-use Rattle.cp_group_state.specs.Outcomes.{Outcome, Reply, Answered, Waits}
+use Rattle.cp_group_state.specs.declared.outcome.Reply.{Reply}
+use Rattle.cp_group_state.specs.declared.outcome.Reply.TheVariants.{Answered, Waits}
+use Rattle.cp_group_state.specs.Outcomes.{Outcome}
 use Rattle.cp_group_state.specs.Destroying.{is_gone}
 use Rattle.cp_group_state.specs.SessionRules.{opened}
 use Rattle.cp_group_state.specs.Protected.{session_in}
