@@ -27,7 +27,8 @@ use Rattle.cp_world_rules.specs.Rows.{Called, Committed, End, Moved, Request, Re
 use Rattle.cp_world_rules.specs.World.{World, begin, begins_now, calls_if_idle, client_at, close, commit, ends_now, handed, ignore, is_client, moves_if_room, new_world, note, returns_now, shows_nothing, start, world_after, world_step}
 use Rattle.cp_world_rules.specs.Execution.{Execution, executed, returns_in}
 use Rattle.cp_world_rules.specs.Returns.{clock_after, moved_by, request_of}
-use Rattle.cp_world_rules.specs.Prompt.{CallIsIgnored, IsBusy, IsClockBefore, IsIgnoredSo, IsOver, TickIsIgnored, ended, returned, went_on}
+use Rattle.cp_world_rules.specs.Judging.{CallIsIgnored, IsBusy, IsClockBefore, IsJudged, IsOver, TickIsIgnored, ended, returned, went_on}
+use Rattle.cp_world_rules.specs.Prompt.{IsIgnoredSo}
 use Rattle.cp_world_rules.proofs.Lists.{get-append, get-right, get-some, one-there, push-none}
 use Rattle.cp_world_rules.proofs.Walking.{IsBetween, IsHanded, IsKept, IsKeptBetween, between-after, does-kept, event-kept, from-kept, handed-kept}
 use Rattle.cp_world_rules.proofs.Printed.{Printed, clock_of, printed-next}
@@ -315,6 +316,12 @@ module _ (plan : Plan) (w : World) (s : Sound plan w) (v : World) (later : Later
     ignored-so (event.CrashAfter m calls choice) cause h = h
     ignored-so (event.Start m) cause h = h
     ignored-so event.Open cause h = h
+
+-- calls and ticks alone
+pub judged-of : (plan : Plan) (x : Execution) (number : ℕ) (e : Event) (cause : Option Ignored) → IsIgnoredSo plan x number e cause → IsJudged plan x number e cause
+judged-of plan x number (event.Call c t o) cause h = h
+judged-of plan x number (event.ClientTick c ms) cause h = h
+judged-of plan x number e cause h = tt
 
 -- ---- each event
 

@@ -53,8 +53,9 @@ use Rattle.cp_world_rules.specs.Holding.{holds_before}
 use Rattle.cp_group_state.specs.Protected.{session_in}
 use Rattle.cp_world_rules.specs.Telling.{EventsTell, FollowsLines, Happened, IsOpening, IsReturnOf, StandFor, StandsOpened}
 use Rattle.cp_world_rules.specs.Sessions.{TellsSession}
-use Rattle.cp_world_rules.specs.Prompt.{BeginsAtOnce, IsIgnoredSo, IsOver, IsPrompt, ended, went_on}
-use Rattle.cp_world_rules.specs.Prompt as prompt
+use Rattle.cp_world_rules.specs.Judging.{BeginsAtOnce, ClientsAct, IsOver, ended, went_on}
+use Rattle.cp_world_rules.specs.Judging as judging
+use Rattle.cp_world_rules.specs.Prompt.{IsIgnoredSo, IsPrompt}
 use Rattle.cp_world_rules.specs.Headline.{Headline}
 use Rattle.cp_world_rules.proofs.Lists.{entries-length, get-map, get-some, one-there}
 use Rattle.cp_world_rules.proofs.Ledgers.{IsSourced, ToldBy, by_call, by_clock, by_end, by_loss, ledger_of}
@@ -71,7 +72,7 @@ use Rattle.cp_world_rules.proofs.Desks as desks
 use Rattle.cp_world_rules.proofs.Threads.{book_of, le-cases}
 use Rattle.cp_world_rules.proofs.Working.{itself-plain}
 use Rattle.cp_world_rules.proofs.Desked.{Sound, none-sound, runs-printed, runs-sound}
-use Rattle.cp_world_rules.proofs.Judged.{all-ignored}
+use Rattle.cp_world_rules.proofs.Judged.{all-ignored, judged-of}
 use Rattle.cp_world_rules.proofs.Goes.{AllGoneOn, all-gone-on}
 use Rattle.cp_world_rules.proofs.Counted.{AllCounted, all-counted}
 use Rattle.cp_world_rules.proofs.Happened.{AllTook, Took, all-took}
@@ -554,7 +555,7 @@ module _ (plan : Plan) (events : List Event) (w : World) (sound : Sound plan w) 
     where
       by : OverBy w.requests w.ends w.returns c.event g.call ⊎ ((Contains {X = Invocation × Answer} [] (g.call, g.answer) ⊎ Contains w.queue (g.call, g.answer)) × (c.event ≡ w.shown.number)) → IsOver (executed w) c.event g.call
       by (inl (ended_by e in_e same by_then)) = ended e in_e same by_then
-      by (inl (returned_by r in_r same by_then)) = prompt.returned r (subst (λ rows. Contains rows r) printed.returns in_r) same by_then
+      by (inl (returned_by r in_r same by_then)) = judging.returned r (subst (λ rows. Contains rows r) printed.returns in_r) same by_then
       by (inl (gone_on_by q in_q own client thread less by_then)) = went_on q in_q own client thread less by_then
       by (inr q) = waits q.0 where
         waits : Contains {X = Invocation × Answer} [] (g.call, g.answer) ⊎ Contains w.queue (g.call, g.answer) → IsOver (executed w) c.event g.call
@@ -584,10 +585,10 @@ module _ (plan : Plan) (events : List Event) (w : World) (sound : Sound plan w) 
     returns = λ r h. let there = noted r h in told r there (good.returns r there);
     follows = (events, printed.events_are, subst (StandFor lines) (sym same) (lines-stand lines));
     events = record { numbers = λ n shown h. printed.numbers n shown h; quiet = λ shown cause there is. quiet shown there cause is; begins = λ q there. happened q.event (took_all.requests q there); ends = λ e there. happened e.event (took_all.ends e there); returned = returned; opened = is-opening; told = stands-opened };
+    clients = record { judged = λ number shown is. judged-of plan (executed w) number shown.event shown.ignored (ignoring number shown is); begins = λ c there. begins c (begun c there) };
     prompt = λ none. record {
       events = printed.events_are ∙ ap (λ es. event.Open ∷ es) same;
       ignored = ignoring;
-      begins = λ c there. begins c (begun c there);
       group = λ r h. (measured.requests r h).in_group;
       committed = default-rows w ∙ printed.committed;
       answered = all-over;

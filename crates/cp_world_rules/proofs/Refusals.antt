@@ -39,8 +39,9 @@ use Rattle.cp_world_rules.specs.Answers.{AllAnswered, GoesOn, IsAnswered, IsOfEn
 use Rattle.cp_world_rules.specs.Holding.{holds_before}
 use Rattle.cp_world_rules.specs.Returns.{AllReturnsTell, HasNoSession, IsTold, LostOwnership, PassedDeadline, answered, at_once, clock_after, late, lost}
 use Rattle.cp_world_rules.specs.Telling.{EventsTell, FollowsLines, IsReturnOf}
-use Rattle.cp_world_rules.specs.Prompt.{BeginsAtOnce, IsOver, IsPrompt, ended, went_on}
-use Rattle.cp_world_rules.specs.Prompt as prompt
+use Rattle.cp_world_rules.specs.Judging.{BeginsAtOnce, ClientsAct, IsOver, ended, went_on}
+use Rattle.cp_world_rules.specs.Judging as judging
+use Rattle.cp_world_rules.specs.Prompt.{IsPrompt}
 use Rattle.cp_world_rules.specs.Wrong.{AreRefused, acquire, add, answers_at_will, answers_nobody, answers_too_early, answers_twice, asks, asks_as_if_nothing_stood, asks_for_an_older_call, asks_in_an_ignored_event, asks_twice, call_of, client, closes_a_session_to_come, closes_anothers_session, closes_without_asking, commits_nothing, counts_an_older_round, counts_wrongly, does_nothing, enters, enters_before_it_is_asked, enters_in_the_wrong_order, enters_unasked, forgets_a_call, get, gets, gives, gives_up_early, gives_up_for_an_older_call, gives_up_without_a_deadline, goes_nowhere, hides_a_session, hides_the_loss, ignores_a_client, ignores_an_idle_thread, ignores_and_returns, increments, invocation, is_told, keeps_an_answer, lists_in_the_wrong_order, locks, loses_what_it_gave_back, makes, makes_a_call_up, never_returns, one_client, one_is, opening, opens, opens_what_nobody_asked, release, returns_at_will, returns_by_an_older_request, returns_to_nobody, returns_twice, returns_what_it_needed, shows, skips_a_line, takes_a_number_twice, tells_two_histories, thread, zero_is}
 
 -- a return of client 1 and its thread 1
@@ -448,14 +449,14 @@ not_returned h = at (h.returned (asks 1 0 1 get) (is_told 1 1 1 zero_is) (at-hea
   at (inl b) = no b.asks
   at (inr r) = no-element r.told r.printed
 
-ignored_client : (lines : List Line) → IsPrompt one_client lines ignores_a_client → ⊥
-ignored_client lines h = no_true (h.ignored 1 (record { number = 1; event = call_of gets; ignored = Some ignored.NoSuchClient; opened = []; returns = [] }) refl)
+ignored_client : ClientsAct one_client ignores_a_client → ⊥
+ignored_client h = no_true (h.judged 1 (record { number = 1; event = call_of gets; ignored = Some ignored.NoSuchClient; opened = []; returns = [] }) refl)
 
-ignored_thread : (lines : List Line) → IsPrompt one_client lines ignores_an_idle_thread → ⊥
-ignored_thread lines h = let b = h.ignored 1 (record { number = 1; event = call_of gets; ignored = Some (ignored.ThreadBusy 1); opened = []; returns = [] }) refl in no-element b.1.request b.1.began
+ignored_thread : ClientsAct one_client ignores_an_idle_thread → ⊥
+ignored_thread h = let b = h.judged 1 (record { number = 1; event = call_of gets; ignored = Some (ignored.ThreadBusy 1); opened = []; returns = [] }) refl in no-element b.1.request b.1.began
 
-nothing : (lines : List Line) → IsPrompt one_client lines does_nothing → ⊥
-nothing lines h = at (h.begins (makes 1 gets) (at-head (makes 1 gets) [])) where
+nothing : ClientsAct one_client does_nothing → ⊥
+nothing h = at (h.begins (makes 1 gets) (at-head (makes 1 gets) [])) where
   at : BeginsAtOnce does_nothing (makes 1 gets) → ⊥
   at (inl q) = no-element q.0 q.1
   at (inr r) = no-element r.0 r.1
@@ -467,7 +468,7 @@ kept : (lines : List Line) → IsPrompt one_client lines keeps_an_answer → ⊥
 kept lines h = at (h.answered (record { index = 1; call = invocation 1 1; answer = zero_is }) (enters 1 1 get) (at-head (record { index = 1; call = invocation 1 1; answer = zero_is }) []) (0, refl, refl)) where
   at : IsOver keeps_an_answer 1 (invocation 1 1) → ⊥
   at (ended e there same l) = no-element e there
-  at (prompt.returned r there same l) = no-element r there
+  at (judging.returned r there same l) = no-element r there
   at (went_on q there own mine of_thread less l) = let e = ap (λ (z : ThreadNo). z.0) own in absurd (omega (arith, e))
 
 pub are-refused : AreRefused

@@ -9,6 +9,7 @@ use Rattle.cp_world_rules.specs.Entries.{EntriesAreAsked, HistoriesStand, Histor
 use Rattle.cp_world_rules.specs.Answers.{AllAnswered, GoesOn}
 use Rattle.cp_world_rules.specs.Returns.{AllReturnsTell}
 use Rattle.cp_world_rules.specs.Telling.{EventsTell, FollowsLines}
+use Rattle.cp_world_rules.specs.Judging.{ClientsAct}
 use Rattle.cp_world_rules.specs.Prompt.{IsPrompt}
 
 pub record Headline (plan : Plan) (lines : List Line) (x : Execution) : Type 0 where
@@ -36,4 +37,5 @@ pub record Headline (plan : Plan) (lines : List Line) (x : Execution) : Type 0 w
   -- the events are those of the lines, and what is printed of each is what it did
   pub follows : FollowsLines lines x
   pub events : EventsTell x
+  pub clients : ClientsAct plan x
   pub prompt : plan.members ≡ 0 → IsPrompt plan lines x

@@ -8,6 +8,7 @@ pub mod Entries
 pub mod Answers
 pub mod Returns
 pub mod Telling
+pub mod Judging
 pub mod Prompt
 pub mod Headline
 pub mod Bounds

@@ -41,6 +41,7 @@ use Rattle.cp_world_rules.specs.Entries.{EntriesAreAsked, EventsRise, HistoriesS
 use Rattle.cp_world_rules.specs.Answers.{AllAnswered, GoesOn}
 use Rattle.cp_world_rules.specs.Returns.{AllReturnsTell}
 use Rattle.cp_world_rules.specs.Telling.{EventsTell, FollowsLines}
+use Rattle.cp_world_rules.specs.Judging.{ClientsAct}
 use Rattle.cp_world_rules.specs.Prompt.{IsPrompt}
 
 -- ---- rows, of client 1 and its thread 1 where nothing else is said
@@ -405,9 +406,9 @@ pub record AreRefused : Type 0 where
   pub not_asked : EventsTell opens_what_nobody_asked → ⊥
   pub hidden : EventsTell hides_a_session → ⊥
   pub not_returned : EventsTell never_returns → ⊥
+  pub ignored_client : ClientsAct one_client ignores_a_client → ⊥
+  pub ignored_thread : ClientsAct one_client ignores_an_idle_thread → ⊥
+  pub nothing : ClientsAct one_client does_nothing → ⊥
   -- what happens at once
-  pub ignored_client : (lines : List Line) → IsPrompt one_client lines ignores_a_client → ⊥
-  pub ignored_thread : (lines : List Line) → IsPrompt one_client lines ignores_an_idle_thread → ⊥
-  pub nothing : (lines : List Line) → IsPrompt one_client lines does_nothing → ⊥
   pub not_committed : (lines : List Line) → IsPrompt one_client lines commits_nothing → ⊥
   pub kept : (lines : List Line) → IsPrompt one_client lines keeps_an_answer → ⊥
