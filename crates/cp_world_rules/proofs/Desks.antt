@@ -120,10 +120,15 @@ module _ (plan : Plan) where
   abbrev pub IsAsked : List Request → Returned → Called → Request → Type 0
   IsAsked requests r c q = Contains requests q × Owns r.client r.what.thread q.call × (q.call.number ≡ r.what.number) × (c.event ≤ q.event) × (q.event ≤ r.event) × MayAsk plan c.op q.op
 
+  -- the call asked nothing, and the number of its return lies between those of the thread's requests
+  abbrev pub AsksNone : List Request → List Called → Returned → Called → Type 0
+  AsksNone requests calls r c = (r.what.ending ≡ ending.Answered answer.Ok) × ((q : Request) → Contains requests q → Owns r.client r.what.thread q.call → c.event ≤ q.event → IsOther calls c.event q)
+      × ((q : Request) → Contains requests q → Owns r.client r.what.thread q.call → (q.event < r.event → q.call.number < r.what.number) × (r.event < q.event → r.what.number < q.call.number))
+
   -- the number of a return is that of the last request of its call
   pub record IsNumbered (b : Book) (r : Returned) (c : Called) : Type 0 where
     pub greatest : (q : Request) → Contains b.requests q → Owns r.client r.what.thread q.call → c.event ≤ q.event → (q.call.number ≤ r.what.number) ⊎ IsOther b.calls c.event q
-    pub asked : ((q : Request) × IsAsked b.requests r c q) ⊎ ((r.what.ending ≡ ending.Answered answer.Ok) × ((q : Request) → Contains b.requests q → Owns r.client r.what.thread q.call → c.event ≤ q.event → IsOther b.calls c.event q))
+    pub asked : ((q : Request) × IsAsked b.requests r c q) ⊎ AsksNone b.requests b.calls r c
 
   pub record BookOk (b : Book) (now : ℕ) : Type 0 where
     pub requests_now : (q : Request) → Contains b.requests q → q.event ≤ now
@@ -245,10 +250,10 @@ module _ (plan : Plan) (b : Book) where
       big q (inl x) = inl x
       big q (inr x) = inr (other-on b.calls c0 c.event q x)
 
-      asks : ((q : Request) × IsAsked plan b.requests r c q) ⊎ ((r.what.ending ≡ ending.Answered answer.Ok) × ((q : Request) → Contains b.requests q → Owns r.client r.what.thread q.call → c.event ≤ q.event → IsOther b.calls c.event q))
-          → ((q : Request) × IsAsked plan b.requests r c q) ⊎ ((r.what.ending ≡ ending.Answered answer.Ok) × ((q : Request) → Contains b.requests q → Owns r.client r.what.thread q.call → c.event ≤ q.event → IsOther (b.calls ++ c0 ∷ []) c.event q))
+      asks : ((q : Request) × IsAsked plan b.requests r c q) ⊎ AsksNone plan b.requests b.calls r c
+          → ((q : Request) × IsAsked plan b.requests r c q) ⊎ AsksNone plan b.requests (b.calls ++ c0 ∷ []) r c
       asks (inl x) = inl x
-      asks (inr x) = inr (x.0, λ q there mine at. other-on b.calls c0 c.event q (x.1 q there mine at))
+      asks (inr x) = inr (x.0, (λ q there mine at. other-on b.calls c0 c.event q (x.1 q there mine at)), x.2)
 
     same-call : (c d : Called) → Contains b.calls c ⊎ (c0 ≡ c) → Contains b.calls d ⊎ (c0 ≡ d) → c.event ≡ d.event → c ≡ d
     same-call c d (inl x) (inl y) e = h.one_call c d x y e
@@ -277,6 +282,7 @@ module _ (plan : Plan) (b : Book) where
   module _ (now : ℕ) (q0 : Request) (h : BookOk plan b now) (at_now : q0.event ≡ now) (source : IsSourcedBy plan b.calls q0)
       (apart : (x : Request) → Contains b.requests x → x.call.client ≡ q0.call.client → x.call.thread ≡ q0.call.thread → Apart b.calls x q0)
       (other : (r : Returned) (c : Called) → Contains b.returned r → IsLast b.calls r.client r.what.thread r.event c → Owns r.client r.what.thread q0.call → IsOther b.calls c.event q0)
+      (behind : (r : Returned) → Contains b.returned r → Owns r.client r.what.thread q0.call → r.what.number < q0.call.number)
     where
       request-now : (q : Request) → Contains b.requests q ⊎ (q0 ≡ q) → q.event ≤ now
       request-now q (inl x) = h.requests_now q x
@@ -304,10 +310,16 @@ module _ (plan : Plan) (b : Book) where
         none f q (inl x) mine at = f q x mine at
         none f q (inr x) mine at = subst (IsOther b.calls c.event) x (other r c there last (subst (λ (z : Request). Owns r.client r.what.thread z.call) (sym x) mine))
 
-        asks : ((q : Request) × IsAsked plan b.requests r c q) ⊎ ((r.what.ending ≡ ending.Answered answer.Ok) × ((q : Request) → Contains b.requests q → Owns r.client r.what.thread q.call → c.event ≤ q.event → IsOther b.calls c.event q))
-            → ((q : Request) × IsAsked plan (b.requests ++ q0 ∷ []) r c q) ⊎ ((r.what.ending ≡ ending.Answered answer.Ok) × ((q : Request) → Contains (b.requests ++ q0 ∷ []) q → Owns r.client r.what.thread q.call → c.event ≤ q.event → IsOther b.calls c.event q))
+        around : ((q : Request) → Contains b.requests q → Owns r.client r.what.thread q.call → (q.event < r.event → q.call.number < r.what.number) × (r.event < q.event → r.what.number < q.call.number))
+            → (q : Request) → Contains b.requests q ⊎ (q0 ≡ q) → Owns r.client r.what.thread q.call → (q.event < r.event → q.call.number < r.what.number) × (r.event < q.event → r.what.number < q.call.number)
+        around f q (inl x) mine = f q x mine
+        around f q (inr x) mine = let e = ap (λ (z : Request). z.event) x in let m = h.returned_now r there in
+            ((λ l. absurd (omega (arith, e, m, l, at_now))), λ l. subst (λ (z : Request). r.what.number < z.call.number) x (behind r there (subst (λ (z : Request). Owns r.client r.what.thread z.call) (sym x) mine)))
+
+        asks : ((q : Request) × IsAsked plan b.requests r c q) ⊎ AsksNone plan b.requests b.calls r c
+            → ((q : Request) × IsAsked plan (b.requests ++ q0 ∷ []) r c q) ⊎ AsksNone plan (b.requests ++ q0 ∷ []) b.calls r c
         asks (inl x) = inl (x.0, (Contains-append_left b.requests (q0 ∷ []) x.0 x.1.0, x.1.1, x.1.2, x.1.3, x.1.4, x.1.5))
-        asks (inr x) = inr (x.0, λ q in_q mine at. none x.1 q (Contains-push_cases b.requests q0 q in_q) mine at)
+        asks (inr x) = inr (x.0, (λ q in_q mine at. none x.1 q (Contains-push_cases b.requests q0 q in_q) mine at), λ q in_q mine. around x.2 q (Contains-push_cases b.requests q0 q in_q) mine)
 
       pub book-request : BookOk plan (with_request b q0) now
       book-request = record {

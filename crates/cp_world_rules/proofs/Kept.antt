@@ -45,7 +45,7 @@ use Rattle.cp_client_rules.specs.Calls.{patience}
 use Rattle.cp_world_rules.specs.Rows.{Called, Committed, End, Opening, Request, Returned, entries_of}
 use Rattle.cp_world_rules.specs.World.{World, new_world, world_after, world_step}
 use Rattle.cp_world_rules.specs.Execution.{Execution, Outcomes, events_of, executed, execution_of, histories_of, history, line_after, lines_after, openings_in, returns_in, rows_of, settles}
-use Rattle.cp_world_rules.specs.Requests.{AsksItselfOnce, CallsStand, EndsOnce, IsBeat, IsCallOf, IsCallOfReturn, IsForItself, IsLastNumber, IsRequestOfCall, MayAsk, ReturnsOnce, TookPlace}
+use Rattle.cp_world_rules.specs.Requests.{AskedNothing, AsksItselfOnce, CallsStand, EndsOnce, IsBeat, IsCallOf, IsCallOfReturn, IsForItself, IsLastNumber, IsRequestOfCall, MayAsk, ReturnsOnce, TookPlace}
 use Rattle.cp_world_rules.specs.Entries.{EntriesAreAsked, HistoriesStand, HistoryIsGood, IsLengthAt, IsOfRequest, IsOwnEntry, LengthsAreTrue, RowsAreInOrder}
 use Rattle.cp_world_rules.specs.Answers.{GoesOn, IsAnswered, IsCommittedAt, lets_go_on}
 use Rattle.cp_world_rules.specs.Returns.{EndedHere, IsTold, LostOwnership, PassedDeadline, answered, at_once, clock_after, late, lost, request_of}
@@ -67,7 +67,7 @@ use Rattle.cp_world_rules.proofs.Begun.{AllBegun, BeginsIn, all-begun}
 use Rattle.cp_world_rules.proofs.Quiet.{AllQuiet, all-quiet}
 use Rattle.cp_world_rules.proofs.Settled.{rests, settled}
 use Rattle.cp_world_rules.proofs.Printed.{Printed, Stands, printed-none}
-use Rattle.cp_world_rules.proofs.Desks.{Apart, Between, BookOk, IsLast, IsNumbered, IsOther, IsSourcedBy, Owns, Tells, by_answer, first_beats, first_prepares, is_beat, other_call, past, replay-same, second_beats, second_prepares}
+use Rattle.cp_world_rules.proofs.Desks.{Apart, AsksNone, Between, BookOk, IsLast, IsNumbered, IsOther, IsSourcedBy, Owns, Tells, by_answer, first_beats, first_prepares, is_beat, other_call, past, replay-same, second_beats, second_prepares}
 use Rattle.cp_world_rules.proofs.Desks as desks
 use Rattle.cp_world_rules.proofs.Threads.{book_of, le-cases}
 use Rattle.cp_world_rules.proofs.Working.{itself-plain}
@@ -369,10 +369,10 @@ module _ (plan : Plan) (events : List Event) (w : World) (sound : Sound plan w) 
     big q of (inl l) = l
     big q of (inr h) = absurd (no-other c q of h)
 
-    asks : ((q : Request) × desks.IsAsked plan w.requests r c q) ⊎ ((r.what.ending ≡ ending.Answered answer.Ok) × ((q : Request) → Contains w.requests q → Owns r.client r.what.thread q.call → c.event ≤ q.event → IsOther w.calls c.event q))
-        → ((q : Request) × Contains w.requests q × IsRequestOfCall plan (executed w) q c × (q.call.number ≡ r.what.number)) ⊎ ((r.what.ending ≡ ending.Answered answer.Ok) × ((q : Request) → Contains w.requests q → IsRequestOfCall plan (executed w) q c → ⊥))
+    asks : ((q : Request) × desks.IsAsked plan w.requests r c q) ⊎ AsksNone plan w.requests w.calls r c
+        → ((q : Request) × Contains w.requests q × IsRequestOfCall plan (executed w) q c × (q.call.number ≡ r.what.number)) ⊎ AskedNothing plan (executed w) r c
     asks (inl h) = inl (h.0, h.1.0, of-last r c h.0 last h.1.1 h.1.3 h.1.4 h.1.5, h.1.2)
-    asks (inr h) = inr (h.0, λ q there of. no-other c q of (h.1 q there (mine-of r c q last of) of.last.by_then))
+    asks (inr h) = inr (record { ok = h.0; none = λ q there of. no-other c q of (h.1 q there (mine-of r c q last of) of.last.by_then); before = λ q there mine l. (h.2 q there mine).0 l; behind = λ q there mine l. (h.2 q there mine).1 l })
 
   returns-once : ReturnsOnce plan (executed w)
   returns-once = record {
@@ -466,7 +466,7 @@ module _ (plan : Plan) (events : List Event) (w : World) (sound : Sound plan w) 
   past-told r there is c last n (by_answer e in_e at call (inr same)) = absurd (lost-late (sym same ∙ is))
   past-told r there is c last n (desks.at_once at same) = absurd (ok-late (sym same ∙ is))
   past-told r there is c last n (past m wish in_m at mine bounded over) = late is (by n.asked) where
-    by : ((q : Request) × desks.IsAsked plan w.requests r c q) ⊎ ((r.what.ending ≡ ending.Answered answer.Ok) × ((q : Request) → Contains w.requests q → Owns r.client r.what.thread q.call → c.event ≤ q.event → IsOther w.calls c.event q)) → PassedDeadline plan (executed w) r
+    by : ((q : Request) × desks.IsAsked plan w.requests r c q) ⊎ AsksNone plan w.requests w.calls r c → PassedDeadline plan (executed w) r
     by (inr x) = absurd (ok-late (sym x.0 ∙ is))
     by (inl x) = record {
       call = c;

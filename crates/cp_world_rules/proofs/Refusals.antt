@@ -26,6 +26,7 @@ use Rattle.cp_events.specs.declared.event.Event.{Event}
 use Rattle.cp_events.specs.declared.event.Event.TheVariants as event
 use Rattle.cp_events.specs.declared.schedule.Line.{Line}
 use Rattle.cp_events.specs.declared.schedule.Line.TheVariants as line
+use Rattle.cp_events.specs.declared.user_op.UserOp.TheVariants as user
 use Rattle.cp_group_state.specs.Sessions.{is_open_for}
 use Rattle.cp_group_state.specs.History.{Given, IsFullyOrderly, state_before}
 use Rattle.cp_group_causes.proofs.Lists.{at-head, get-in, no-element, one-is, one-only}
@@ -33,7 +34,7 @@ use Rattle.cp_client_rules.specs.Asking.{default_group, wish_of}
 use Rattle.cp_client_rules.specs.Calls.{patience}
 use Rattle.cp_world_rules.specs.Rows.{Called, Committed, End, Opening, Request, Returned, entries_of}
 use Rattle.cp_world_rules.specs.Execution.{Execution, history}
-use Rattle.cp_world_rules.specs.Requests.{AsksItselfOnce, CallsStand, EndsOnce, IsBeat, IsCallOf, IsForItself, IsForNeed, IsRequestOfCall, MayAsk, NumbersRise, Requested, ReturnsOnce, RoundsAreTold}
+use Rattle.cp_world_rules.specs.Requests.{AskedNothing, AsksItselfOnce, CallsStand, EndsOnce, IsBeat, IsCallOf, IsForItself, IsForNeed, IsRequestOfCall, MayAsk, NumbersRise, Requested, ReturnsOnce, RoundsAreTold}
 use Rattle.cp_world_rules.specs.Entries.{EntriesAreAsked, EventsRise, HistoriesStand, IsOfRequest, IsOwnEntry, LengthsAreTrue, NamesOwnSessions, RowsAreInOrder}
 use Rattle.cp_world_rules.specs.Answers.{AllAnswered, GoesOn, IsAnswered, IsOfEndedGroup, lets_go_on}
 use Rattle.cp_world_rules.specs.Holding.{holds_before}
@@ -42,7 +43,7 @@ use Rattle.cp_world_rules.specs.Telling.{EventsTell, FollowsLines, IsReturnOf}
 use Rattle.cp_world_rules.specs.Judging.{BeginsAtOnce, ClientsAct, IsOver, ended, went_on}
 use Rattle.cp_world_rules.specs.Judging as judging
 use Rattle.cp_world_rules.specs.Prompt.{IsPrompt}
-use Rattle.cp_world_rules.specs.Wrong.{AreRefused, acquire, add, answers_at_will, answers_nobody, answers_too_early, answers_twice, asks, asks_as_if_nothing_stood, asks_for_an_older_call, asks_in_an_ignored_event, asks_twice, call_of, client, closes_a_session_to_come, closes_anothers_session, closes_without_asking, commits_nothing, counts_an_older_round, counts_wrongly, does_nothing, enters, enters_before_it_is_asked, enters_in_the_wrong_order, enters_unasked, forgets_a_call, get, gets, gives, gives_up_early, gives_up_for_an_older_call, gives_up_without_a_deadline, goes_nowhere, hides_a_session, hides_the_loss, ignores_a_client, ignores_an_idle_thread, ignores_and_returns, increments, invocation, is_told, keeps_an_answer, lists_in_the_wrong_order, locks, loses_what_it_gave_back, makes, makes_a_call_up, never_returns, one_client, one_is, opening, opens, opens_what_nobody_asked, release, returns_at_will, returns_by_an_older_request, returns_to_nobody, returns_twice, returns_what_it_needed, shows, skips_a_line, takes_a_number_twice, tells_two_histories, thread, zero_is}
+use Rattle.cp_world_rules.specs.Wrong.{AreRefused, acquire, add, answers_at_will, answers_nobody, answers_too_early, answers_twice, asks, asks_as_if_nothing_stood, asks_for_an_older_call, asks_in_an_ignored_event, asks_twice, call_of, client, closes_a_session_to_come, closes_anothers_session, closes_without_asking, commits_nothing, counts_an_older_round, counts_wrongly, does_nothing, enters, enters_before_it_is_asked, enters_in_the_wrong_order, enters_unasked, forgets_a_call, get, gets, gives, gives_up_early, gives_up_for_an_older_call, gives_up_without_a_deadline, goes_nowhere, hides_a_session, hides_the_loss, ignores_a_client, ignores_an_idle_thread, ignores_and_returns, increments, invocation, is_told, keeps_an_answer, lists_in_the_wrong_order, locks, loses_what_it_gave_back, makes, makes_a_call_up, never_returns, one_client, one_is, opening, opens, opens_what_nobody_asked, release, returns_at_will, returns_by_an_older_request, returns_to_nobody, returns_twice, returns_what_it_needed, shows, skips_a_line, takes_a_number_twice, takes_an_old_number, tells_two_histories, thread, zero_is}
 
 -- a return of client 1 and its thread 1
 abbrev row : ℕ → ℕ → Answer → Returned
@@ -187,6 +188,16 @@ older_request h = let c = h.of_call (row 1 1 (answer.Session 1)) (at-head (row 1
 
     of : IsRequestOfCall one_client returns_by_an_older_request (asks 1 1 2 (acquire 1)) (makes 1 locks)
     of = record { last = only-call returns_by_an_older_request (makes 1 locks) 1 refl (le_refl 1); by_client = refl; by_thread = refl; asks = inl (1, 0, refl) }
+
+old_number : ReturnsOnce one_client takes_an_old_number → ⊥
+old_number h = let x = h.of_call (row 2 1 answer.Ok) (Contains-push (row 1 1 zero_is ∷ []) (row 2 1 answer.Ok)) in at x.0 x.1 x.2.asked where
+  late_call : (c : Called) → IsCallOf takes_an_old_number (client 1) thread 2 c → 2 ≤ c.event
+  late_call c l = l.latest (makes 2 (user.CloseSession None)) (Contains-push (makes 1 gets ∷ []) (makes 2 (user.CloseSession None))) refl refl (omega arith)
+
+  at : (c : Called) → IsCallOf takes_an_old_number (client 1) thread 2 c
+      → ((q : Request) × Contains takes_an_old_number.requests q × IsRequestOfCall one_client takes_an_old_number q c × (q.call.number ≡ 1)) ⊎ AskedNothing one_client takes_an_old_number (row 2 1 answer.Ok) c → ⊥
+  at c l (inl q) = let e = ap (λ (z : Request). z.event) (one-is (asks 1 0 1 get) q.0 q.1) in let m = q.2.last.by_then in let k = late_call c l in absurd (omega (arith, e, m, k))
+  at c l (inr a) = let k = a.before (asks 1 0 1 get) (at-head (asks 1 0 1 get) []) (refl, refl) (omega arith) in absurd (omega (arith, k))
 
 answered-is : {a b : Answer} → ending.Answered a ≡ ending.Answered b → a ≡ b
 answered-is e = cc
@@ -496,6 +507,7 @@ are-refused = record {
   returned_twice = returned_twice;
   to_nobody = to_nobody;
   older_request = older_request;
+  old_number = old_number;
   needed = needed;
   untold = untold;
   closed = closed;

@@ -34,7 +34,7 @@ use Rattle.cp_world_rules.specs.Requests.{MayAsk}
 use Rattle.cp_world_rules.specs.Laws.{is_for_itself}
 use Rattle.cp_world_rules.proofs.Lists.{push-none}
 use Rattle.cp_world_rules.proofs.GroupLaws.{prepares}
-use Rattle.cp_world_rules.proofs.Desks.{Apart, Between, Book, BookOk, IsAsked, IsLast, IsNow, IsNumbered, IsOpen, IsOther, IsSourcedBy, OverIn, Owns, TaskWorks, Tells, ThreadOk, Works, book-end, book-request, book-return, first_prepares, has_gone_on, is_beat, of_thread, other_call, over-end, over-request, over-return, replay-same, second_beats, thread-end, thread-request, thread-return, was_ended, was_returned, with_end, with_request, with_return, works-end, works-request}
+use Rattle.cp_world_rules.proofs.Desks.{Apart, AsksNone, Between, Book, BookOk, IsAsked, IsLast, IsNow, IsNumbered, IsOpen, IsOther, IsSourcedBy, OverIn, Owns, TaskWorks, Tells, ThreadOk, Works, book-end, book-request, book-return, first_prepares, has_gone_on, is_beat, of_thread, other_call, over-end, over-request, over-return, replay-same, second_beats, thread-end, thread-request, thread-return, was_ended, was_returned, with_end, with_request, with_return, works-end, works-request}
 
 at-self : (n : ℕ) → is_at (nat_cmp n) n ≡ false → ⊥
 at-self n h = no (sym (ap is_eq (number_key.here n)) ∙ h) where
@@ -220,8 +220,11 @@ module _ (plan : Plan) (w : World) (me : ClientNo) where
           let k = works.not_returned r there (replay-same r.client me (sym mine.0 ∙ ap (λ (z : Invocation). z.client) q0_is)) (sym mine.1 ∙ ap (λ (z : Invocation). z.thread) q0_is) in
           inr (record { call = call; began = works.began; client_is = of_client; thread_is = of_thread_is; later = omega (arith, l, k); in_time = in_time })
 
+      behind : (r : Returned) → Contains b.returned r → Owns r.client r.what.thread q0.call → r.what.number < q0.call.number
+      behind r there mine = let n = m.told r there (replay-same r.client me (sym mine.0 ∙ ap (λ (z : Invocation). z.client) q0_is)) (sym mine.1 ∙ ap (λ (z : Invocation). z.thread) q0_is) in let k = ap (λ (z : Invocation). z.number) q0_is in omega (arith, n, k)
+
       pub asks-for : (p : Pending) (o : UserOp) → p.task ≡ task.Calls o → p.deadline ≡ deadline_of call.clock (wish_of o) → call.op ≡ o → (is_for_itself p.purpose ≡ false → prepares q0.op ≡ true) → Mid (with_request b q0) (with_thread c t (row_asking p))
-      asks-for p o task_is deadline_is op_is prep = asks-here q0 p q0_is (λ q there mine. all-over q (m.overs q there mine)) (book-request plan b w.shown.number q0 m.book now_is source apart other)
+      asks-for p o task_is deadline_is op_is prep = asks-here q0 p q0_is (λ q there mine. all-over q (m.overs q there mine)) (book-request plan b w.shown.number q0 m.book now_is source apart other behind)
           (subst (TaskWorks plan (with_request b q0) me t q0 (is_for_itself p.purpose) p.deadline) (sym task_is)
           (call, op_is, works-request plan b me t q0 call (is_for_itself p.purpose) (λ mine e. prep e) (still (is_for_itself p.purpose)), in_time, subst (λ x. MayAsk plan x q0.op) op_is may, deadline_is))
         where
@@ -237,7 +240,7 @@ module _ (plan : Plan) (w : World) (me : ClientNo) where
 
     -- the call returns, by this number
     module _ (call : Called) (itself : Bool) (works : Works plan b me t call itself) (r0 : Returned) (now_is : r0.event ≡ w.shown.number) (mine_is : r0.client ≡ me) (thread_is : r0.what.thread ≡ t) (at_least : (thread_at c t).number ≤ r0.what.number)
-        (tells : Tells b.ends b.moves r0 call) (asked : ((q : Request) × IsAsked plan b.requests r0 call q) ⊎ ((r0.what.ending ≡ ending.Answered answer.Ok) × ((q : Request) → Contains b.requests q → Owns r0.client r0.what.thread q.call → call.event ≤ q.event → IsOther b.calls call.event q)))
+        (tells : Tells b.ends b.moves r0 call) (asked : ((q : Request) × IsAsked plan b.requests r0 call q) ⊎ AsksNone plan b.requests b.calls r0 call)
       where
         call-last : IsLast b.calls r0.client r0.what.thread r0.event call
         call-last = record {
@@ -286,9 +289,12 @@ module _ (plan : Plan) (w : World) (me : ClientNo) where
 
     -- a beat
     pub beats-here : (q0 : Request) (p : Pending) (s : ℕ) → q0.event ≡ w.shown.number → q0.call ≡ of_thread plan me t ((thread_at c t).number + 1) → is_beat q0.op ≡ true → p.task ≡ task.Beats s → p.deadline ≡ None → t ≡ own_thread → Mid (with_request b q0) (with_thread c t (row_asking p))
-    beats-here q0 p s now_is q0_is beat task_is none own = asks-here q0 p q0_is (λ q there mine. over q mine (m.overs q there mine)) (book-request plan b w.shown.number q0 m.book now_is (inr beat) (λ x there e f. second_beats beat) (λ r d there last mine. inl beat))
+    beats-here q0 p s now_is q0_is beat task_is none own = asks-here q0 p q0_is (λ q there mine. over q mine (m.overs q there mine)) (book-request plan b w.shown.number q0 m.book now_is (inr beat) (λ x there e f. second_beats beat) (λ r d there last mine. inl beat) behind_beat)
         (subst (TaskWorks plan (with_request b q0) me t q0 (is_for_itself p.purpose) p.deadline) (sym task_is) none)
       where
+        behind_beat : (r : Returned) → Contains b.returned r → Owns r.client r.what.thread q0.call → r.what.number < q0.call.number
+        behind_beat r there mine = let n = m.told r there (replay-same r.client me (sym mine.0 ∙ ap (λ (z : Invocation). z.client) q0_is)) (sym mine.1 ∙ ap (λ (z : Invocation). z.thread) q0_is) in let k = ap (λ (z : Invocation). z.number) q0_is in omega (arith, n, k)
+
         over : (q : Request) → Owns me t q.call → ((opened ≡ true) × (q.call.number ≡ (thread_at c t).number)) ⊎ OverIn b.requests b.ends b.returned q.call → OverIn (b.requests ++ q0 ∷ []) b.ends b.returned q.call
         over q mine (inl h) = let n = h.1 in let k = ap (λ (z : Invocation). z.number) q0_is in has_gone_on q0 (Contains-push b.requests q0) (mine.1 ∙ own) (ap (λ (z : Invocation). z.client) q0_is ∙ sym mine.0) (ap (λ (z : Invocation). z.thread) q0_is ∙ sym mine.1) (omega (arith, n, k))
         over q mine (inr o) = over-request b.requests q0 b.ends b.returned q.call o

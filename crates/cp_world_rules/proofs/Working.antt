@@ -105,7 +105,7 @@ module _ (plan : Plan) (w : World) (me : ClientNo) where
 
     closing-goes : (so : Option ℕ) → AsksNothing → Goes b (closing plan (replay_id me) call so c)
     closing-goes None none = subst (λ (x : Book). Mid plan w me x (with_thread c call.thread (record { number = (thread_at c call.thread).number + 1; pending = None }))) (sym (adds-return w me b done_now))
-        (returns-here plan w me b c call.thread false m made false works (returns_now w me done_now) refl refl refl (omega arith) (at_once none.0 refl) (inr (refl, none.1)) ((thread_at c call.thread).number + 1) (le_refl ((thread_at c call.thread).number + 1)) (λ e. absurd (no_true e)))
+        (returns-here plan w me b c call.thread false m made false works (returns_now w me done_now) refl refl refl (omega arith) (at_once none.0 refl) (inr (refl, none.1, λ q there mine. ((λ l. (let n = m.numbers q there mine in omega (arith, n))), λ l. (let n = m.book.requests_now q there in absurd (omega (arith, n, l)))))) ((thread_at c call.thread).number + 1) (le_refl ((thread_at c call.thread).number + 1)) (λ e. absurd (no_true e)))
     closing-goes (Some s) none = itself-goes s 0
 
     need-goes : (need : Need) → need_of call.op ≡ need → (need ≡ SessionToClose → AsksNothing) → Goes b (by_need plan (replay_id me) need call c)

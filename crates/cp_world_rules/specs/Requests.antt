@@ -116,11 +116,22 @@ EndsOnce ends = (j k : ℕ) (a b : End) → slice_get ends j ≡ Some a → slic
 abbrev pub IsCallOfReturn : Execution → Returned → Called → Type 0
 IsCallOfReturn x r c = IsCallOf x r.client r.what.thread r.event c
 
--- The number of a return is that of the call's last request. A call that asks nothing takes a number too, and returns Ok.
+-- a request of the thread of a return
+abbrev pub IsOfThread : Returned → Request → Type 0
+IsOfThread r q = (q.call.client ≡ replay_id r.client) × (q.call.thread ≡ r.what.thread)
+
+-- The call asked nothing. It takes a number too, behind those of the thread's requests before, and before those later.
+pub record AskedNothing (plan : Plan) (x : Execution) (r : Returned) (c : Called) : Type 0 where
+  pub ok : r.what.ending ≡ ending.Answered answer.Ok
+  pub none : (q : Request) → Contains x.requests q → IsRequestOfCall plan x q c → ⊥
+  pub before : (q : Request) → Contains x.requests q → IsOfThread r q → q.event < r.event → q.call.number < r.what.number
+  pub behind : (q : Request) → Contains x.requests q → IsOfThread r q → r.event < q.event → r.what.number < q.call.number
+
+-- The number of a return is that of the call's last request.
 pub record IsLastNumber (plan : Plan) (x : Execution) (r : Returned) (c : Called) : Type 0 where
   pub greatest : (q : Request) → Contains x.requests q → IsRequestOfCall plan x q c → q.call.number ≤ r.what.number
   pub asked : ((q : Request) × Contains x.requests q × IsRequestOfCall plan x q c × (q.call.number ≡ r.what.number))
-      ⊎ ((r.what.ending ≡ ending.Answered answer.Ok) × ((q : Request) → Contains x.requests q → IsRequestOfCall plan x q c → ⊥))
+      ⊎ AskedNothing plan x r c
 
 -- A return is that of a call, by its last request, and a call returns once at most.
 pub record ReturnsOnce (plan : Plan) (x : Execution) : Type 0 where

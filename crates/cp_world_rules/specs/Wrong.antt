@@ -229,6 +229,13 @@ returns_by_an_older_request = record right {
   requests = asks 1 0 1 (op.Session session.Open) ∷ asks 1 1 2 (acquire 1) ∷ [];
 }
 
+-- A call that asks nothing returns under the number of an earlier request.
+abbrev pub takes_an_old_number : Execution
+takes_an_old_number = record right {
+  effects = opening ∷ shows 1 (call_of gets) [] (gives 1 zero_is ∷ []) ∷ shows 2 (call_of (user.CloseSession None)) [] (gives 1 answer.Ok ∷ []) ∷ [];
+  calls = makes 1 gets ∷ makes 2 (user.CloseSession None) ∷ [];
+}
+
 -- A return that tells the session which the call only needed.
 abbrev pub returns_what_it_needed : Execution
 returns_what_it_needed = record nowhere {
@@ -390,6 +397,7 @@ pub record AreRefused : Type 0 where
   pub returned_twice : ReturnsOnce one_client returns_twice → ⊥
   pub to_nobody : ReturnsOnce one_client returns_to_nobody → ⊥
   pub older_request : ReturnsOnce one_client returns_by_an_older_request → ⊥
+  pub old_number : ReturnsOnce one_client takes_an_old_number → ⊥
   pub needed : AllReturnsTell one_client returns_what_it_needed → ⊥
   pub untold : AllReturnsTell one_client returns_at_will → ⊥
   pub closed : AllReturnsTell one_client closes_without_asking → ⊥
