@@ -54,7 +54,9 @@ use Rattle.cp_group_state.specs.GroupState.{GroupState}
 use Rattle.cp_group_state.specs.Changes.{Change, stay, for_each, finish, end_all}
 use Rattle.cp_group_state.specs.Serving.{serve_from, serve, left_by, serve_left, serve_each_left, hand_to, hand_over}
 use Rattle.cp_group_state.specs.Closing.{concerned, forget, free_locks, free_permits, end_sessions, close}
-use Rattle.cp_group_state.specs.Outcomes.{Outcome, Reply, Answered, wait}
+use Rattle.cp_group_state.specs.Outcomes.{Outcome, wait}
+use Rattle.cp_group_state.specs.declared.outcome.Reply.{Reply}
+use Rattle.cp_group_state.specs.declared.outcome.Reply.TheVariants.{Answered}
 use Rattle.cp_group_state.specs.Apply.{supersede, time_out, is_older, outcome, rule}
 use Rattle.cp_group_state.specs.Destroying.{is_gone, add_gone, drop_rows, destroy_rule, names_gone, object_of}
 use Rattle.cp_group_state.specs.LockRules.{lock_rule, on_taken, on_released}

@@ -9,8 +9,10 @@ use Rattle.cp_events.specs.declared.plan.Plan.{Plan}
 use Rattle.cp_events.specs.declared.schedule.Line.{Line}
 use Rattle.cp_events.specs.declared.schedule.Schedule.{Schedule}
 use Rattle.cp_schedule.specs.Reading.{IsRead}
-use Rattle.cp_world_rules.specs.Execution.{Settled, events_of}
-use Rattle.cp_world_rules.proofs.Kept.{headline-kept, prompt-kept}
+use Rattle.cp_world_rules.specs.World.{new_world}
+use Rattle.cp_world_rules.specs.Execution.{Settled, events_of, executed, execution_of}
+use Rattle.cp_transcript.specs.Transcripts.{transcript_of}
+use Rattle.cp_world_rules.proofs.Kept.{headline-kept, lines-same}
 use Rattle.cp_tool.specs.Limits.{IsLimit, KeepsLimits, text_of}
 use Rattle.cp_tool.specs.Running.{IsWhole}
 use Rattle.cp_tool.specs.Runs.{Limits, Replays, ReplaysFront}
@@ -33,6 +35,10 @@ few_in_all plan lines kept =
     subst (λ ls. length (events_of ls) ≤ 100000) (take_all (length lines) lines (omega arith))
     (few_events (length (events_of (take (length lines) lines))) (length (text_of plan (events_of (take (length lines) lines)))) (kept (length lines) (omega arith)))
 
+-- lines that settle nothing stand for no event
+same_text : (s : Schedule) → text_of s.plan (events_of s.lines) ≡ transcript_of (execution_of s Settled)
+same_text s = ap (λ w. transcript_of (executed w)) (sym (lines-same s.plan s.lines new_world))
+
 pub replays : (left now : Option (List ℕ)) (bytes : List ℕ) (s : Schedule) (before after : Option (List ℕ)) (text : List ℕ)
     → GaveAll 16777216 left now bytes → IsRead bytes s → IsWhole s.plan s.lines text → Appends before after text
     → IfSome left (λ bs. Replays bs before after)
@@ -44,9 +50,8 @@ replays left now bytes s before after text gave spelled whole appended =
       limits = whole.kept;
       outcomes = Settled;
       allowed = tt;
-      transcript = subst (λ t. Appends before after t) whole.text_is appended;
+      transcript = subst (λ t. Appends before after t) (whole.text_is ∙ same_text s) appended;
       headline = headline-kept s Settled (omega (arith, few));
-      prompt = prompt-kept s Settled;
     })
 
 pub replays_front : (left now : Option (List ℕ)) (bytes : List ℕ) (s : Schedule) (before after : Option (List ℕ)) (text : List ℕ)
@@ -59,7 +64,7 @@ replays_front left now bytes s before after text gave spelled whole appended =
       limits = whole.kept;
       outcomes = Settled;
       allowed = tt;
-      front = subst (λ t. AppendsFront before after t) whole.text_is appended;
+      front = subst (λ t. AppendsFront before after t) (whole.text_is ∙ same_text s) appended;
     })
 
 pub limited : (left now : Option (List ℕ)) (bytes : List ℕ) (s : Schedule) (line : ℕ) (name : LimitName)

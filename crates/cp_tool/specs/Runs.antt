@@ -5,7 +5,7 @@ use Rattle.cp_base.specs.Faults.{AppendsFront}
 use Rattle.cp_events.specs.declared.schedule.Schedule.{Schedule}
 use Rattle.cp_schedule.specs.Reading.{IsRead}
 use Rattle.cp_world_rules.specs.Execution.{IsAllowed, Outcomes, execution_of}
-use Rattle.cp_world_rules.specs.Headline.{Headline, IsPrompt}
+use Rattle.cp_world_rules.specs.Headline.{Headline}
 use Rattle.cp_transcript.specs.Transcripts.{transcript_of}
 use Rattle.cp_tool.specs.Limits.{IsLimit, KeepsLimits}
 use Rattle.cp_tool.specs.declared.status.LimitName.{LimitName}
@@ -24,8 +24,7 @@ pub record Replays (bytes : List ℕ) (before after : Option (List ℕ)) : Type 
   pub outcomes : Outcomes
   pub allowed : IsAllowed schedule outcomes
   pub transcript : Appends before after (transcript_of (execution_of schedule outcomes))
-  pub headline : Headline schedule.plan (execution_of schedule outcomes)
-  pub prompt : IsPrompt schedule (execution_of schedule outcomes)
+  pub headline : Headline schedule.plan schedule.lines (execution_of schedule outcomes)
 
 -- The bytes spell a schedule, and a front of its transcript was written.
 pub record ReplaysFront (bytes : List ℕ) (before after : Option (List ℕ)) : Type 0 where

@@ -7,7 +7,7 @@ use Rattle.cp_events.specs.declared.effects.Effects.{Effects}
 use Rattle.cp_world_rules.specs.Rows.{Committed}
 use Rattle.cp_transcript.specs.Effects.{effects_lines}
 use Rattle.cp_transcript.specs.Histories.{committed_line, committed_lines}
-use Rattle.cp_transcript.specs.Transcripts.{opening}
+use Rattle.cp_transcript.specs.Transcripts.{heading}
 use Rattle.cp_transcript.specs.Telling.{Tells, committed_at}
 use Rattle.cp_transcript.specs.declared.transcript.TranscriptWriter.{TranscriptWriter}
 
@@ -30,7 +30,7 @@ pub one_event_more : (shown : List Effects) (history : List Committed) (e : Effe
     → Tells shown history old → new.text.items ≡ old.text.items ++ effects_lines e → new.rows ≡ old.rows → new.history.items ≡ old.history.items
     → Tells (shown ++ e ∷ []) history new
 one_event_more shown history e old new tells text rows lines = record {
-  text = text ∙ ap (λ t. t ++ effects_lines e) tells.text ∙ append_assoc opening (flat_map effects_lines shown) (effects_lines e) ∙ ap (λ t. opening ++ t) (sym (effects_more shown e));
+  text = text ∙ ap (λ t. t ++ effects_lines e) tells.text ∙ append_assoc heading (flat_map effects_lines shown) (effects_lines e) ∙ ap (λ t. heading ++ t) (sym (effects_more shown e));
   rows = rows ∙ tells.rows;
   history = lines ∙ tells.history;
 }

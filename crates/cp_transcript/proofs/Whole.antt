@@ -9,7 +9,7 @@ use Rattle.cp_world_rules.specs.Execution.{histories_of}
 use Rattle.cp_transcript.specs.Histories.{committed_lines, history_lines}
 use Rattle.cp_transcript.specs.Transcripts.{lines_of}
 use Rattle.cp_transcript.specs.Effects.{effects_lines}
-use Rattle.cp_transcript.specs.Transcripts.{opening}
+use Rattle.cp_transcript.specs.Transcripts.{heading}
 use Rattle.cp_transcript.specs.Telling.{Tells, history_text, whole_text}
 use Rattle.cp_transcript.specs.declared.transcript.TranscriptWriter.{TranscriptWriter}
 use Rattle.cp_transcript.proofs.Growing.{nothing_behind}
@@ -33,11 +33,11 @@ history_is (c ∷ committed) rows lines few is =
     let stands : (rows == 0) ≡ false = ne_eqb rows 0 (λ (none : rows ≡ 0). omega arith) in
     rw (stands, is) (sym (histories_some c committed))
 
-pub whole_is : (shown : List Effects) (committed : List Committed) (t : TranscriptWriter) → Tells shown committed t → whole_text t ≡ lines_of shown committed
+pub whole_is : (shown : List Effects) (committed : List Committed) (t : TranscriptWriter) → Tells shown committed t → whole_text t ≡ lines_of shown (histories_of committed)
 whole_is shown committed t tells =
     ap (λ x. x ++ history_text t.rows t.history.items ++ codes "end\n") tells.text
-    ∙ ap (λ x. (opening ++ flat_map effects_lines shown) ++ x ++ codes "end\n") (history_is committed t.rows t.history.items tells.rows tells.history)
+    ∙ ap (λ x. (heading ++ flat_map effects_lines shown) ++ x ++ codes "end\n") (history_is committed t.rows t.history.items tells.rows tells.history)
 
 pub length_is : (shown : List Effects) (committed : List Committed) (t : TranscriptWriter) → Tells shown committed t
-    → length t.text.items + length (history_text t.rows t.history.items) + 4 ≡ length (lines_of shown committed)
+    → length t.text.items + length (history_text t.rows t.history.items) + 4 ≡ length (lines_of shown (histories_of committed))
 length_is shown committed t tells = parts_length t.text.items (history_text t.rows t.history.items) (codes "end\n") ∙ ap length (whole_is shown committed t tells)

@@ -2,9 +2,10 @@
 ghost use Rattle.cp_base.specs.declared.limits.TheConstants.{LAST_NUMBER};
 ghost use Rattle.std.specs.Prelude.{◌≡◌, ◌+◌, ◌<◌, ◌^◌, ◌++◌, ◌∷◌, List, [], length, IfOk, OnOk};
 ghost use Rattle.cp_events.specs.declared.effects.Effects.{Effects};
+ghost use Rattle.cp_world_rules.specs.Execution.{histories_of};
 ghost use Rattle.cp_world_rules.specs.Rows.{Committed};
 ghost use Rattle.cp_transcript.specs.Telling.{Tells, committed_at, history_text};
-ghost use Rattle.cp_transcript.specs.Transcripts.{lines_of};
+ghost use Rattle.cp_transcript.specs.Transcripts.{lines_of, opening};
 
 use crate::effects::write_effects;
 use crate::history::write_committed;
@@ -30,9 +31,9 @@ pub struct TranscriptWriter {
 }
 
 impl TranscriptWriter {
-    /// The lines before the first event.
+    /// The lines before the first event of a schedule: the heading, and event 0.
     pub fn new(alloc: Global) -> Result<TranscriptWriter, NoMemory>
-        ensures { IfOk result (λ transcript. Tells [] [] transcript) }
+        ensures { IfOk result (λ transcript. Tells (opening ∷ []) [] transcript) }
     {
         Ok(TranscriptWriter {
             text: Vec::from_slice(alloc, b"cp 1 transcript\n0 open\n")?,
@@ -100,7 +101,7 @@ impl TranscriptWriter {
     /// How many bytes the whole text has if it ends here. The sum of two lengths may have more than 64 bits.
     pub fn len(&self) -> u128
         ensures { (shown : List Effects) (history : List Committed) → Tells shown history self.now → result
-            ≡ length (lines_of shown history) }
+            ≡ length (lines_of shown (histories_of history)) }
     {
         let history = history_len(self.rows, &self.history);
         whole_len(&self.text, history)
@@ -109,7 +110,7 @@ impl TranscriptWriter {
     /// The whole text: the lines of the events, those of the history, and the last line.
     pub fn into_text(self) -> Result<Vec<u8>, NoMemory>
         ensures { IfOk result (λ text. (shown : List Effects) (history : List Committed) → Tells shown history self
-            → text.items ≡ lines_of shown history) }
+            → text.items ≡ lines_of shown (histories_of history)) }
     {
         let TranscriptWriter {
             mut text,

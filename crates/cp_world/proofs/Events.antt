@@ -40,7 +40,7 @@ commit_leads a world done turn clients tables queue entries events = record {
         rest = record {
           state = tables ∙ ap (λ x. x.state) applied;
           entries = entries ∙ ap (λ (n : ℕ). n + 1) g.rest.entries ∙ sym (length-append w.history (record { event = w.shown.number; entry = e_is } ∷ []));
-          events = events ∙ g.rest.events;
+          events = ap (λ (n : ℕ). n + 1) events ∙ g.rest.events;
           effects_are = g.rest.effects_are;
           queue = queue ∙ ap (λ (q : List (Invocation × Answer)). q ++ (apply (world.entries + 1) e_is world.tables).answers) g.rest.queue ∙ ap (λ x. w.queue ++ x.answers) applied;
           shown = g.rest.shown;
@@ -94,7 +94,7 @@ module _ (plan : Plan) (world two : World) (turn : Turn) (queue : List (Invocati
     rest = record {
       state = tables ∙ g.rest.state;
       entries = entries ∙ g.rest.entries;
-      events = events ∙ g.rest.events;
+      events = ap (λ (n : ℕ). n + 1) events ∙ g.rest.events;
       effects_are = g.rest.effects_are;
       queue = left;
       shown = g.rest.shown;
@@ -129,7 +129,7 @@ leads_same f world turn done same later clients tables entries events queue l = 
     rest = record {
       state = tables ∙ g.rest.state;
       entries = entries ∙ g.rest.entries;
-      events = events ∙ g.rest.events;
+      events = ap (λ (n : ℕ). n + 1) events ∙ g.rest.events;
       effects_are = g.rest.effects_are;
       queue = queue ∙ g.rest.queue;
       shown = g.rest.shown;
@@ -155,7 +155,7 @@ begun e w world f = record {
     events = f.events;
     effects_are = refl;
     queue = f.queue;
-    shown = ap (λ (n : ℕ). rules.shows_nothing (n + 1) e) (sym f.events);
+    shown = ap (λ (n : ℕ). rules.shows_nothing n e) (sym f.events);
     history = sym (append-nil w.history);
   };
 }
@@ -270,7 +270,7 @@ module _ (one two : World) (clients : two.clients.entries ≡ one.clients.entrie
     clients = clients ∙ f.clients;
     state = tables ∙ f.state;
     entries = entries ∙ f.entries;
-    events = events ∙ f.events;
+    events = ap (λ (n : ℕ). n + 1) events ∙ f.events;
     queue = queue ∙ f.queue;
   }
 

@@ -21,7 +21,7 @@ use Rattle.cp_client_rules.specs.Clients.{Asked, Client, Did, thread_at}
 use Rattle.cp_client.specs.declared.output.ClientOut.{ClientOut}
 use Rattle.cp_client.specs.Threads.{open_number}
 use Rattle.cp_world_rules.specs.World as rules
-use Rattle.cp_world_rules.proofs.Runs.{runs-printed}
+use Rattle.cp_world_rules.proofs.Desked.{runs-printed}
 use Rattle.cp_world.specs.declared.turn.Turn.{Turn}
 use Rattle.cp_world.specs.declared.world.World.{World}
 use Rattle.cp_world.specs.Following.{Goes, Leads, LeadsFrom}
@@ -140,9 +140,9 @@ counted f (x ∷ xs) = ap (λ (n : ℕ). suc n) (counted f xs)
 pub events_few : (plan : Plan) (world : World) → IsReached plan world → world.events < 2 ^ 60
 events_few plan world r =
     let w = rules.world_after plan rules.new_world r.events in
-    let events_are : map (λ (x : Effects). x.event) w.effects ≡ r.events = (runs-printed plan r.events).events_are in
-    let same : length w.effects ≡ length r.events = sym (counted (λ (x : Effects). x.event) w.effects) ∙ ap length events_are in
-    let mine : world.events ≡ length w.effects = r.follows.events in
+    let events_are : map (λ (x : Effects). x.event) w.effects ≡ event.Open ∷ r.events = (runs-printed plan r.events).events_are in
+    let same : length w.effects ≡ length (event.Open ∷ r.events) = sym (counted (λ (x : Effects). x.event) w.effects) ∙ ap length events_are in
+    let mine : world.events + 1 ≡ length w.effects = r.follows.events in
     let few = r.few in omega arith
 
 -- nothing is left to be handed on

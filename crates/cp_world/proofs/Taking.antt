@@ -104,7 +104,7 @@ module _ (me : ClientNo) (step : Client → Did) (notes : rules.World → rules.
       rest = record {
         state = rest.tables ∙ g.rest.state;
         entries = rest.entries ∙ g.rest.entries;
-        events = rest.events ∙ g.rest.events;
+        events = ap (λ (n : ℕ). n + 1) rest.events ∙ g.rest.events;
         effects_are = g.rest.effects_are;
         queue = rest.queue ∙ g.rest.queue;
         shown = g.rest.shown;

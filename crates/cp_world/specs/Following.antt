@@ -1,5 +1,5 @@
 -- The code's world as one of the definitions.
-use Rattle.std.specs.Prelude.{◌≡◌, ℕ, List, [], ◌∷◌, ◌++◌, length, map}
+use Rattle.std.specs.Prelude.{◌≡◌, ◌+◌, ℕ, List, [], ◌∷◌, ◌++◌, length, map}
 use Rattle.std.specs.Ordering.{nat_cmp}
 use Rattle.cp_base.specs.declared.identifier.ClientNo.{ClientNo}
 use Rattle.cp_ops.specs.declared.entry.Entry.{Entry}
@@ -25,7 +25,8 @@ effects_of e turn = record { number = turn.number; event = e; ignored = turn.ign
 pub record HasRest (before : rules.World) (e : Event) (w : rules.World) (world : World) (turn : Turn) : Type 0 where
   pub state : world.tables ≡ w.state
   pub entries : world.entries ≡ length w.history
-  pub events : world.events ≡ length w.effects
+  -- event 0 opens all members, and is not counted
+  pub events : world.events + 1 ≡ length w.effects
   pub effects_are : w.effects ≡ before.effects
   pub queue : world.queue ≡ w.queue
   pub shown : w.shown ≡ effects_of e turn
@@ -36,7 +37,7 @@ pub record Follows (w : rules.World) (world : World) : Type 0 where
   pub clients : world.clients.entries ≡ w.clients
   pub state : world.tables ≡ w.state
   pub entries : world.entries ≡ length w.history
-  pub events : world.events ≡ length w.effects
+  pub events : world.events + 1 ≡ length w.effects
   pub queue : world.queue ≡ w.queue
 
 -- What an event leaves: the world after it, and in the turn what it shows and the entries that it committed.

@@ -1,5 +1,5 @@
 -- What a client does at an answer and at a tick is allowed.
-use Rattle.std.proofs.Common.{◌≡◌, ℕ, ◌+◌, ◌-◌, ◌≤◌, ◌⊎◌, inl, inr, true, false, not, ◌&&◌, List, [], ◌∷◌, ◌++◌, Some, None, Option, refl, sym, subst, ap, ◌∙◌, arith, le_refl, append_assoc}
+use Rattle.std.proofs.Common.{◌≡◌, ℕ, ◌+◌, ◌-◌, ◌≤◌, ◌⊎◌, inl, inr, true, false, not, ◌&&◌, List, [], ◌∷◌, ◌++◌, Some, None, Option, refl, sym, subst, ap, ◌∙◌, arith, le_refl, length, append_assoc, Bool}
 use Rattle.std.specs.Prelude.{All, Contains, nat_lt, ◌==◌, unsigned_abs, slice_get, ℤ}
 use Rattle.std.specs.Ordering.{nat_cmp}
 use Rattle.std.proofs.lemmas.Bool.Decides.{nat_tests}
@@ -9,7 +9,7 @@ use Rattle.cp_base.specs.declared.identifier.ClientNo.{ClientNo}
 use Rattle.cp_base.specs.declared.identifier.GroupId.{GroupId}
 use Rattle.cp_base.specs.declared.identifier.Invocation.{Invocation}
 use Rattle.cp_base.specs.declared.identifier.ThreadNo.{ThreadNo}
-use Rattle.cp_base.proofs.Tests.{same_number, same_some, none_some}
+use Rattle.cp_base.proofs.Tests.{no_false, same_number, same_some, none_some}
 use Rattle.cp_answers.specs.declared.answer.Answer.{Answer}
 use Rattle.cp_answers.specs.declared.answer.Answer.TheVariants as answer
 use Rattle.cp_answers.specs.declared.ended_by.EndedBy.TheVariants as ended_by
@@ -47,13 +47,17 @@ use Rattle.cp_client_rules.specs.Calls.{deadline_of, patience}
 use Rattle.cp_client_rules.specs.Answers.{answer_client, call_in, finished, on_pending, on_task, prepared}
 use Rattle.cp_client_rules.specs.Ticks.{beat, beat_each, beat_if_due, beats, end_each, end_late, is_due, is_late, is_past, own_thread, tick_client, user_threads}
 use Rattle.cp_world_rules.specs.Rows.{End, Moved, Request}
-use Rattle.cp_world_rules.specs.World.{World, client_at, client_of, note}
-use Rattle.cp_world_rules.specs.Promises.{needs_session}
+use Rattle.cp_world_rules.specs.World.{World, client_at, client_of, ends_now, note}
+use Rattle.cp_world_rules.specs.Requests.{needs_session}
+use Rattle.cp_world_rules.specs.Answers.{lets_go_on}
+use Rattle.cp_world_rules.proofs.Desks.{is_beat}
+use Rattle.cp_world_rules.proofs.GroupLaws.{prepares}
+use Rattle.cp_world_rules.proofs.Working.{itself-plain}
 use Rattle.cp_world_rules.proofs.Lists.{get-some, push-none, rows-find, rows-put, rows-without}
-use Rattle.cp_world_rules.proofs.Ledgers.{Extends, Fenced, HoldOk, Knows, Ledger, OnLock, OpenedIn, PendingOk, PurposeOk, TaskOk, ToldBy, by_clock, by_end, by_loss, fenced-on, ledger_of, lock_key, on_lock-on, told-on}
+use Rattle.cp_world_rules.proofs.Ledgers.{Extends, Fenced, HoldOk, Knows, Ledger, OnLock, OpenedIn, PendingOk, PurposeOk, TaskOk, ToldBy, by_clock, by_end, by_loss, fenced-on, ledger_of, lock_key, on_lock-on, return_call, told-on, uses_session}
 use Rattle.cp_world_rules.proofs.Good.{AnsweredBy, Fits, Given, Good}
 use Rattle.cp_world_rules.proofs.Does.{DidOk}
-use Rattle.cp_world_rules.proofs.Clients.{Midway, ask-midway, did, go_on-fine, idle-midway, itself-fine, midway-now, needing-returns, records-midway, with_step}
+use Rattle.cp_world_rules.proofs.Clients.{Midway, ask-midway, did, go_on-fine, idle-midway, itself-fine, known-now, midway-now, needing-returns, records-midway, with_step}
 
 -- the client's sessions
 module _ (w : World) (me : ClientNo) where
@@ -130,7 +134,7 @@ module _ (plan : Plan) (w : World) (request : Invocation) (a : Answer) (good : G
   l = with_step w [] ((request, a) ∷ [])
 
   abbrev pub this_end : End
-  this_end = record { event = w.shown.number; call = request; answer = a }
+  this_end = ends_now w (request, a)
 
   of-client : request.client ≡ replay_id (client_of request)
   of-client = let e = given.answered.entered in subst (λ (x : Invocation). x.client ≡ replay_id (client_of x)) e.mine (good.clients_are e.request e.begun)
@@ -153,12 +157,12 @@ module _ (plan : Plan) (w : World) (request : Invocation) (a : Answer) (good : G
   same-request number e = λ j. record { client = sym of-client j; thread = request.thread; number = e j }
 
   -- a ledger after the step
-  module _ (after : Ledger) (more : Extends (ledger_of w) after) (ends_here : Contains after.ends this_end) (now_same : after.now ≡ w.shown.number) where
+  module _ (after : Ledger) (more : Extends (ledger_of w) after) (ends_here : Contains after.ends this_end) (now_same : after.now ≡ w.shown.number) (q : Request) (in_q : Contains w.requests q) (of_q : q.call ≡ request) (fin : lets_go_on q.op a ≡ false) where
     abbrev pub Told : Answer → Type 0
     Told x = ToldBy after w.shown.number (client_of request) (record { thread = request.thread; number = request.number; ending = ending.Answered x })
 
     plain-told : (x : Answer) → a ≡ x → Told x
-    plain-told x is = by_end this_end ends_here refl (sym (same-request request.number refl)) (ap (λ y. ending.Answered y) (sym is))
+    plain-told x is = by_end this_end ends_here refl (sym (same-request request.number refl)) (ap (λ y. ending.Answered y) (sym is)) q (more.requests q in_q) of_q fin
 
     loss-told : (name : List ℕ) (s x : ℕ) (key : LockKey) (h : HoldRecord) → a ≡ answer.SessionExpired x → key.0 ≡ request.thread.0 → key.2 ≡ name → OnLock (ledger_of w) request name → HoldOk (ledger_of w) (client_of request) key h → Told answer.OwnershipLost
     loss-told name s x key h is t n lock held = let f = held.1 in
@@ -182,7 +186,7 @@ module _ (plan : Plan) (w : World) (request : Invocation) (a : Answer) (good : G
     holding-told now o p ok = plain-told a refl
 
   -- what the records of the client are after a call is finished
-  owner-needs : (object : Object) (o : LockCall) → is_owner o ≡ false → needs_session (need_of (user.Lock object o)) ≡ true
+  owner-needs : (object : Object) (o : LockCall) → is_owner o ≡ false → uses_session (need_of (user.Lock object o)) ≡ true
   owner-needs object lock_call.Lock e = refl
   owner-needs object (lock_call.Try ms) e = refl
   owner-needs object lock_call.Unlock e = refl
@@ -228,8 +232,8 @@ module _ (plan : Plan) (w : World) (request : Invocation) (a : Answer) (good : G
   round-reached : (o : UserOp) (object : Object) (r : ℤ) → o ≡ user.Latch object latch_call.Down → IsReached w.state (Some (object.name, unsigned_abs r)) → IsReached w.state (down_in (op_of plan o 0 (unsigned_abs r)))
   round-reached o object r is h = subst (λ x. IsReached w.state (down_in (op_of plan x 0 (unsigned_abs r)))) (sym is) h
 
-  round-needs : (o : UserOp) (object : Object) → o ≡ user.Latch object latch_call.Down → needs_session (need_of o) ≡ true → ⊥
-  round-needs o object is h = no (sym (ap (λ x. needs_session (need_of x)) is) ∙ h) where
+  round-needs : (o : UserOp) (object : Object) → o ≡ user.Latch object latch_call.Down → uses_session (need_of o) ≡ true → ⊥
+  round-needs o object is h = no (sym (ap (λ x. uses_session (need_of x)) is) ∙ h) where
     no : false ≡ true → ⊥
     no k = cc
 
@@ -256,31 +260,81 @@ module _ (plan : Plan) (w : World) (request : Invocation) (a : Answer) (good : G
   no-returns : (d : Did) → d.returns ≡ [] → TellsOf d
   no-returns d e r h = absurd (no-element r (subst (λ rs. Contains rs r) e h))
 
-  finished-tells : (now : Pending) (o : UserOp) (p : Purpose) → PurposeOk plan (ledger_of w) (client_of request) request (task.Calls o) p → TellsOf (finished request.number (call_in request now o) p a c)
-  finished-tells now o p ok r h = let d = finished request.number (call_in request now o) p a c in
+  -- whether the answer to a request for this lets the call go on
+  abbrev goes_on : Purpose → Answer → Bool
+  goes_on purpose.ForSession (answer.Session s) = true
+  goes_on purpose.ForRound (answer.Value r) = true
+  goes_on p x = false
+
+  session-final : (x : Answer) → goes_on purpose.ForSession x ≡ false → lets_go_on (op.Session session.Open) x ≡ false
+  session-final (answer.Session s) e = absurd (no_false (sym e))
+  session-final x e = refl
+
+  round-final : (name : List ℕ) (x : Answer) → goes_on purpose.ForRound x ≡ false → lets_go_on (op.Latch name latch.Round) x ≡ false
+  round-final name (answer.Value r) e = absurd (no_false (sym e))
+  round-final name x e = refl
+
+  plain-final : (o : Op) (x : Answer) → prepares o ≡ false → lets_go_on o x ≡ false
+  plain-final (op.Session session.Open) x e = absurd (no_false (sym e))
+  plain-final (op.Latch name latch.Round) x e = absurd (no_false (sym e))
+  plain-final o x e = refl
+
+  final-of : (o : UserOp) (p : Purpose) → PurposeOk plan (ledger_of w) (client_of request) request (task.Calls o) p → goes_on p a ≡ false → (q : Request) × Contains w.requests q × (q.call ≡ request) × (lets_go_on q.op a ≡ false)
+  final-of o purpose.ForSession ok e = let k = ok.1 in (k.0, k.1, k.2, subst (λ y. lets_go_on y a ≡ false) (sym k.3) (session-final a e))
+  final-of o purpose.ForRound ok e = let k = ok.2 in (k.0, k.1, k.2, subst (λ y. lets_go_on y a ≡ false) (sym k.3) (round-final ok.0.name a e))
+  final-of o (purpose.ForItself s) ok e = let k = ok.0.1 in (k.0, k.1, k.2, subst (λ y. lets_go_on y a ≡ false) (sym k.3) (plain-final (op_of plan o s ok.0.0) a (itself-plain plan o s ok.0.0)))
+
+  finished-tells : (now : Pending) (o : UserOp) (p : Purpose) → PurposeOk plan (ledger_of w) (client_of request) request (task.Calls o) p → goes_on p a ≡ false → TellsOf (finished request.number (call_in request now o) p a c)
+  finished-tells now o p ok fin r h = let f = final-of o p ok fin in let d = finished request.number (call_in request now o) p a c in
       subst (ToldBy (ledger_of (note (client_of request) (mine (finished request.number (call_in request now o) p a c)) w)) w.shown.number (client_of request))
       (sym (one-is (record { thread = request.thread; number = request.number; ending = ending.Answered (holding request.thread now.group o p a c.holds).answer }) r h))
-      (holding-told (ledger_of (note (client_of request) (mine (finished request.number (call_in request now o) p a c)) w)) (noted d) ends_l refl now o p ok)
+      (holding-told (ledger_of (note (client_of request) (mine (finished request.number (call_in request now o) p a c)) w)) (noted d) ends_l refl f.0 f.1 f.2 f.3 now o p ok)
 
   prepared-tells : (now : Pending) (o : UserOp) (p : Purpose) (x : Answer) → a ≡ x → CallOk now o → PurposeOk plan (ledger_of w) (client_of request) request (task.Calls o) p → TellsOf (prepared plan (replay_id (client_of request)) request.number (call_in request now o) p x c)
   prepared-tells now o purpose.ForSession (answer.Session s) is begun ok = no-returns (prepared plan (replay_id (client_of request)) request.number (call_in request now o) purpose.ForSession (answer.Session s) c)
       (needing-returns plan w (client_of request) ((request, a) ∷ []) (call_in request now o) (with_session now.group s c) (opened-midway now.group s (session-opened s ok.1 is)) begun ok.0)
   prepared-tells now o purpose.ForRound (answer.Value r) is begun ok = no-returns (prepared plan (replay_id (client_of request)) request.number (call_in request now o) purpose.ForRound (answer.Value r) c) refl
-  prepared-tells now o p x is begun ok = subst (λ y. TellsOf (finished request.number (call_in request now o) p y c)) is (finished-tells now o p ok)
+  prepared-tells now o p x is begun ok = subst (λ y. TellsOf (finished request.number (call_in request now o) p y c)) is (finished-tells now o p ok (subst (λ y. goes_on p y ≡ false) (sym is) refl))
 
   task-tells : (x : Task) (now : Pending) → TaskOk (ledger_of w) (client_of request) request.thread now.deadline x → PurposeOk plan (ledger_of w) (client_of request) request x now.purpose → TellsOf (on_task plan (replay_id (client_of request)) request x now a c)
   task-tells (task.Calls o) now begun ok = prepared-tells now o now.purpose a refl begun ok
   task-tells (task.Beats s) now begun ok = no-returns (on_task plan (replay_id (client_of request)) request (task.Beats s) now a c) refl
 
-  one-answered : (x : Invocation × Answer) → Contains ((request, a) ∷ []) x → AnsweredBy w.requests w.history w.shown.number x.0 x.1
-  one-answered x h = subst (λ (y : Invocation × Answer). AnsweredBy w.requests w.history w.shown.number y.0 y.1) (sym (one-is (request, a) x h)) given.answered
+  -- an answer that doesn't let the call go on is returned
+  op-of : (q : Request) (o : Op) → Contains w.requests q → q.call ≡ request → Knows (ledger_of w) request o → q.op ≡ o
+  op-of q o there same k = let i = get-some w.requests q there in let j = get-some w.requests k.0 k.1 in
+      let p : i.0 ≡ j.0 = good.distinct i.0 j.0 q k.0 i.1 j.1 (same ∙ sym k.2) in ap (λ (z : Request). z.op) (same_some (sym i.1 ∙ (ap (slice_get w.requests) p ∙ j.1))) ∙ k.3
+
+  abbrev ReturnsIt : Did → Type 0
+  ReturnsIt d = (q : Request) → Contains w.requests q → q.call ≡ request → lets_go_on q.op a ≡ false → (is_beat q.op ≡ true) ⊎ ((r : Return) × Contains d.returns r × (return_call (client_of request) r ≡ request))
+
+  finished-returns : (now : Pending) (o : UserOp) (p : Purpose) (x : Answer) → ReturnsIt (finished request.number (call_in request now o) p x c)
+  finished-returns now o p x q there same fin = inr (record { thread = request.thread; number = request.number; ending = ending.Answered (holding request.thread now.group o p x c.holds).answer }, at-head _ [], same-request request.number refl)
+
+  prepared-returns : (now : Pending) (o : UserOp) (p : Purpose) (x : Answer) → a ≡ x → PurposeOk plan (ledger_of w) (client_of request) request (task.Calls o) p → ReturnsIt (prepared plan (replay_id (client_of request)) request.number (call_in request now o) p x c)
+  prepared-returns now o purpose.ForSession (answer.Session s) is ok q there same fin = absurd (no_false (sym (subst (λ y. lets_go_on (op.Session session.Open) y ≡ false) is (subst (λ y. lets_go_on y a ≡ false) (op-of q (op.Session session.Open) there same ok.1) fin))))
+  prepared-returns now o purpose.ForRound (answer.Value r) is ok q there same fin = absurd (no_false (sym (subst (λ y. lets_go_on (op.Latch ok.0.name latch.Round) y ≡ false) is (subst (λ y. lets_go_on y a ≡ false) (op-of q (op.Latch ok.0.name latch.Round) there same ok.2) fin))))
+  prepared-returns now o p x is ok q there same fin = finished-returns now o p x q there same fin
+
+  task-back : (x : Task) (now : Pending) → PurposeOk plan (ledger_of w) (client_of request) request x now.purpose → ReturnsIt (on_task plan (replay_id (client_of request)) request x now a c)
+  task-back (task.Calls o) now ok q there same fin = prepared-returns now o now.purpose a refl ok q there same fin
+  task-back (task.Beats s) now ok q there same fin = inl (ap is_beat (op-of q (op.Session (session.Beat s)) there same ok))
+
+  task-returns : (t : Task) (now : Pending) → PurposeOk plan (ledger_of w) (client_of request) request t now.purpose → (x : Invocation × Answer) (q : Request) → Contains ((request, a) ∷ []) x → Contains w.requests q → q.call ≡ x.0 → lets_go_on q.op x.1 ≡ false
+      → (is_beat q.op ≡ true) ⊎ ((r : Return) × Contains (on_task plan (replay_id (client_of request)) request t now a c).returns r × (return_call (client_of request) r ≡ x.0))
+  task-returns t now ok x q h there same fin = let e = one-is (request, a) x h in
+      subst (λ (y : Invocation × Answer). (is_beat q.op ≡ true) ⊎ ((r : Return) × Contains (on_task plan (replay_id (client_of request)) request t now a c).returns r × (return_call (client_of request) r ≡ y.0))) (sym e)
+      (task-back t now ok q there (same ∙ ap (λ (y : Invocation × Answer). y.0) e) (subst (λ (y : Invocation × Answer). lets_go_on q.op y.1 ≡ false) e fin))
+
+  one-answered : (x : Invocation × Answer) → Contains ((request, a) ∷ []) x → AnsweredBy w.requests w.history w.shown.number (length w.history) x.0 x.1
+  one-answered x h = subst (λ (y : Invocation × Answer). AnsweredBy w.requests w.history w.shown.number (length w.history) y.0 y.1) (sym (one-is (request, a) x h)) given.answered
 
   nothing-ok : DidOk plan w (client_of request) (nothing c)
-  nothing-ok = did plan w (client_of request) (nothing c) (midway-now plan w (client_of request) [] good) (λ x h. absurd (no-element x h)) (λ r h. absurd (no-element r h))
+  nothing-ok = did plan w (client_of request) (nothing c) (midway-now plan w (client_of request) [] good) (λ x h. absurd (no-element x h)) (λ r h. absurd (no-element r h)) (λ x q h. absurd (no-element x h))
 
   pending-ok : (now : Option Pending) → (thread_at c request.thread).pending ≡ now → (thread_at c request.thread).number ≡ request.number → DidOk plan w (client_of request) (on_pending plan (replay_id (client_of request)) request now a c)
   pending-ok None is same = nothing-ok
-  pending-ok (Some now) is same = did plan w (client_of request) (on_pending plan (replay_id (client_of request)) request (Some now) a c) (task-fine now.task now ok.of_task purpose_ok) one-answered (task-tells now.task now ok.of_task purpose_ok) where
+  pending-ok (Some now) is same = did plan w (client_of request) (on_pending plan (replay_id (client_of request)) request (Some now) a c) (task-fine now.task now ok.of_task purpose_ok) one-answered (task-tells now.task now ok.of_task purpose_ok) (task-returns now.task now purpose_ok) where
     ok : PendingOk plan (ledger_of w) (client_of request) request.thread (thread_at c request.thread).number now
     ok = (good.clients (client_of request)).pending request.thread now is
 
@@ -361,7 +415,11 @@ module _ (plan : Plan) (w : World) (me : ClientNo) (moved : Moved) (there : Cont
   beat-fine asked g own c opened m = let b : Client = record c { sessions = put nat_cmp c.sessions g (record { id = own.id; beat = c.clock }) } in record {
     client = ask-midway plan w me asked [] own_thread (record { group = record { 0 = g }; task = task.Beats own.id; purpose = purpose.ForItself own.id; deadline = None }) (op.Session (session.Beat own.id)) (record c { sessions = put nat_cmp c.sessions g (record { id = own.id; beat = c.clock }) })
         (records-midway plan w me asked [] c (put nat_cmp c.sessions g (record { id = own.id; beat = c.clock })) c.holds (rows-put nat_cmp number_key (λ k (x : OwnSession). OpenedIn w.history x.id (replay_id me)) c.sessions g (record { id = own.id; beat = c.clock }) opened m.client.own) m.client.held m)
-        (record { of_task = refl; for_purpose = tt }) (λ s used. subst (λ x. OpenedIn w.history x (replay_id me)) (same_some used) opened, tt)
+        (record {
+          of_task = refl;
+          for_purpose = known-now plan w me asked [] own_thread (record { group = record { 0 = g }; task = task.Beats own.id; purpose = purpose.ForItself own.id; deadline = None }) (op.Session (session.Beat own.id)) (record c { sessions = put nat_cmp c.sessions g (record { id = own.id; beat = c.clock }) })
+              (records-midway plan w me asked [] c (put nat_cmp c.sessions g (record { id = own.id; beat = c.clock })) c.holds (rows-put nat_cmp number_key (λ k (x : OwnSession). OpenedIn w.history x.id (replay_id me)) c.sessions g (record { id = own.id; beat = c.clock }) opened m.client.own) m.client.held m);
+        }) (λ s used. subst (λ x. OpenedIn w.history x (replay_id me)) (sym (one-is own.id s used)) opened, tt)
         (inr (moved, own.id, there, of_event, ap replay_id (sym of_client), refl, refl));
     ended = refl;
     returns = refl;
@@ -380,7 +438,7 @@ module _ (plan : Plan) (w : World) (me : ClientNo) (moved : Moved) (there : Cont
       }
 
   tick-midway : (ms : ℕ) → Good plan w → Midway plan w me (record (client_at w me) { clock = (client_at w me).clock + ms }) [] []
-  tick-midway ms good = let m = midway-now plan w me [] good in record { client = record { own = m.client.own; held = m.client.held; pending = m.client.pending }; rises = m.rises; fresh = m.fresh; distinct = m.distinct; legal = m.legal; sources = m.sources }
+  tick-midway ms good = let m = midway-now plan w me [] good in record { client = record { own = m.client.own; held = m.client.held; pending = m.client.pending }; rises = m.rises; fresh = m.fresh; distinct = m.distinct; rising = m.rising; legal = m.legal; sources = m.sources }
 
   from : (c : Client) → Midway plan w me c [] [] → c.clock ≡ moved.clock → DidOk plan w me (and_then (end_each user_threads c) (beats (replay_id me)))
   from c m clock = let x = late-all user_threads c m clock in
@@ -390,6 +448,7 @@ module _ (plan : Plan) (w : World) (me : ClientNo) (moved : Moved) (there : Cont
       (subst (λ asked. Midway plan w me (beats (replay_id me) (end_each user_threads c).client).client (asked ++ (beats (replay_id me) (end_each user_threads c).client).asked) []) (sym x.asked) y.client))
       (λ z h. absurd (no-element z (subst (λ es. Contains es z) (none x.ended y.ended) h)))
       (λ r h. told x.returns y.returns r (Contains-append_cases (end_each user_threads c).returns (beats (replay_id me) (end_each user_threads c).client).returns r h))
+      (λ z q h. absurd (no-element z (subst (λ es. Contains es z) (none x.ended y.ended) h)))
     where
       none : {X : Type 0} {xs ys : List X} → xs ≡ [] → ys ≡ [] → xs ++ ys ≡ []
       none e f = rw (e, f)

@@ -42,7 +42,7 @@ use Rattle.cp_client_rules.specs.Holds.{Holding, ends_holding, expired, held_aft
 use Rattle.cp_client_rules.specs.Calls.{Call, by_need, call_client, closing, deadline_of, go_on, holding_session, in_session, pending_of}
 use Rattle.cp_client_rules.specs.Answers.{answer_client, call_in, finished, on_pending, on_task, prepared}
 use Rattle.cp_client_rules.specs.Ticks.{beat_each, beat_if_due, beats, end_each, end_late, is_due, is_late, own_thread, tick_client, user_threads}
-use Rattle.cp_world_rules.specs.Promises.{needs_session}
+use Rattle.cp_world_rules.specs.Requests.{needs_session}
 use Rattle.cp_world_rules.specs.World.{World, begin, calls_if_idle, client_at, client_of, does, hand_all, hand_on, handed, is_client, moves_if_room, new_world, note, start, world_after, world_step}
 use Rattle.cp_world_rules.specs.Bounds.{AllWithin, HasMade, IsEarned, IsWithin, OpensForNeed, open_requests}
 use Rattle.cp_world_rules.proofs.Lists.{rows-find, rows-put, rows-weaker, rows-without}

@@ -40,19 +40,21 @@ use Rattle.cp_client_rules.specs.Asking.{Need, Nothing, HoldingSession, ItsSessi
 use Rattle.cp_client_rules.specs.Clients.{Asked, Client, Did, LockKey, ask, id_of, lock_cmp, next_request, or_new, session_in_group, thread_at, with_thread}
 use Rattle.cp_client_rules.specs.Calls.{Call, ask_itself, by_need, call_client, closing, deadline_of, go_on, holding_session, in_session, or_own, pending_of}
 use Rattle.cp_world_rules.specs.Rows.{Request}
-use Rattle.cp_world_rules.specs.World.{World, client_at, note}
-use Rattle.cp_world_rules.specs.Promises.{MayAsk, needs_session}
+use Rattle.cp_world_rules.specs.World.{World, begins_now, client_at, ends_now, note}
+use Rattle.cp_world_rules.specs.Requests.{MayAsk, needs_session}
+use Rattle.cp_world_rules.specs.Answers.{lets_go_on}
+use Rattle.cp_world_rules.proofs.Desks.{is_beat}
 use Rattle.cp_world_rules.proofs.Lists.{get-append, rows-find}
-use Rattle.cp_world_rules.proofs.Ledgers.{ClientOk, Extends, HoldOk, IsSourced, Knows, Ledger, OpenedIn, PendingOk, TaskOk, ToldBy, by_call, client-on, ledger_of, lock_key}
+use Rattle.cp_world_rules.proofs.Ledgers.{ClientOk, Extends, HoldOk, IsSourced, Knows, Ledger, OpenedIn, PendingOk, TaskOk, ToldBy, by_call, client-on, ledger_of, lock_key, return_call, uses_session}
 use Rattle.cp_world_rules.proofs.Good.{AnsweredBy, Good, UsesOwn}
-use Rattle.cp_world_rules.proofs.Does.{DidOk, DistinctAsked, begins}
+use Rattle.cp_world_rules.proofs.Does.{DidOk, DistinctAsked, RisesAsked}
 
 -- the ledger with what a step asks and ends
 abbrev pub with_step : World → List Asked → List (Invocation × Answer) → Ledger
 with_step w asked ended = record {
   history = w.history;
-  requests = w.requests ++ map (begins w) asked;
-  ends = w.ends ++ map (λ e. record { event = w.shown.number; call = e.0; answer = e.1 }) ended;
+  requests = w.requests ++ map (begins_now w) asked;
+  ends = w.ends ++ map (ends_now w) ended;
   calls = w.calls;
   moves = w.moves;
   now = w.shown.number;
@@ -64,8 +66,9 @@ pub record Midway (plan : Plan) (w : World) (me : ClientNo) (c : Client) (asked 
   pub rises : (t : ThreadNo) → (thread_at (client_at w me) t).number ≤ (thread_at c t).number
   pub fresh : (x : Asked) → Contains asked x → (x.call.client ≡ replay_id me) × ((thread_at (client_at w me) x.call.thread).number < x.call.number) × (x.call.number ≤ (thread_at c x.call.thread).number)
   pub distinct : DistinctAsked asked
+  pub rising : RisesAsked asked
   pub legal : (x : Asked) → Contains asked x → UsesOwn w.history x.call.client x.op × IsReached w.state (down_in x.op)
-  pub sources : (x : Asked) → Contains asked x → IsSourced plan (ledger_of w) (begins w x)
+  pub sources : (x : Asked) → Contains asked x → IsSourced plan (ledger_of w) (begins_now w x)
 
 thread-same : (x t : ThreadNo) → is_at (nat_cmp x.0) t.0 ≡ true → x ≡ t
 thread-same x t e = ap (λ n. record { 0 = n }) (number_key.same x.0 t.0 (equal_is _ e))
@@ -87,11 +90,11 @@ none-pending plan l me t number now e = absurd (no e) where
 
 -- what a step asks more
 step-more : (w : World) (asked more : List Asked) (ended : List (Invocation × Answer)) → Extends (with_step w asked ended) (with_step w (asked ++ more) ended)
-step-more w asked more ended = record { history = λ s client h. h; requests = λ r h. at r (Contains-append_cases w.requests (map (begins w) asked) r h); ends = λ e h. h; calls = λ c h. h; moves = λ c h. h; now = le_refl w.shown.number } where
-  at : (r : Request) → Contains w.requests r ⊎ Contains (map (begins w) asked) r → Contains (w.requests ++ map (begins w) (asked ++ more)) r
-  at r (inl h) = Contains-append_left w.requests (map (begins w) (asked ++ more)) r h
-  at r (inr h) = let x = mapped (begins w) asked r h in
-      subst (Contains (w.requests ++ map (begins w) (asked ++ more))) (sym x.2) (Contains-append_right w.requests (map (begins w) (asked ++ more)) (begins w x.0) (map-in (begins w) (asked ++ more) x.0 (Contains-append_left asked more x.0 x.1)))
+step-more w asked more ended = record { history = λ s client h. h; requests = λ r h. at r (Contains-append_cases w.requests (map (begins_now w) asked) r h); ends = λ e h. h; calls = λ c h. h; moves = λ c h. h; now = le_refl w.shown.number } where
+  at : (r : Request) → Contains w.requests r ⊎ Contains (map (begins_now w) asked) r → Contains (w.requests ++ map (begins_now w) (asked ++ more)) r
+  at r (inl h) = Contains-append_left w.requests (map (begins_now w) (asked ++ more)) r h
+  at r (inr h) = let x = mapped (begins_now w) asked r h in
+      subst (Contains (w.requests ++ map (begins_now w) (asked ++ more))) (sym x.2) (Contains-append_right w.requests (map (begins_now w) (asked ++ more)) (begins_now w x.0) (map-in (begins_now w) (asked ++ more) x.0 (Contains-append_left asked more x.0 x.1)))
 
 pub nothing-yet : (w : World) (ended : List (Invocation × Answer)) → Extends (ledger_of w) (with_step w [] ended)
 nothing-yet w ended = record { history = λ s client h. h; requests = λ r h. Contains-append_left w.requests [] r h; ends = λ e h. Contains-append_left w.ends _ e h; calls = λ c h. h; moves = λ c h. h; now = le_refl w.shown.number }
@@ -107,6 +110,7 @@ module _ (plan : Plan) (w : World) (me : ClientNo) (asked : List Asked) (ended :
     rises = λ x. le_trans (m.rises x) (rises-in t n None c more x);
     fresh = λ x h. let f = m.fresh x h in (f.0, f.1, le_trans f.2 (rises-in t n None c more x.call.thread));
     distinct = m.distinct;
+    rising = m.rising;
     legal = m.legal;
     sources = m.sources;
   }
@@ -114,7 +118,7 @@ module _ (plan : Plan) (w : World) (me : ClientNo) (asked : List Asked) (ended :
   -- other sessions and hold records
   pub records-midway : (c : Client) (sessions : List (ℕ × OwnSession)) (holds : List (LockKey × HoldRecord)) → All (λ (e : ℕ × OwnSession). OpenedIn w.history e.1.id (replay_id me)) sessions
       → All (λ (e : LockKey × HoldRecord). HoldOk (with_step w asked ended) me e.0 e.1) holds → Midway plan w me c asked ended → Midway plan w me (record c { sessions = sessions; holds = holds }) asked ended
-  records-midway c sessions holds own held m = record { client = record { own = own; held = held; pending = m.client.pending }; rises = m.rises; fresh = m.fresh; distinct = m.distinct; legal = m.legal; sources = m.sources }
+  records-midway c sessions holds own held m = record { client = record { own = own; held = held; pending = m.client.pending }; rises = m.rises; fresh = m.fresh; distinct = m.distinct; rising = m.rising; legal = m.legal; sources = m.sources }
 
   -- a request
   module _ (t : ThreadNo) (now : Pending) (o : Op) (c : Client) (m : Midway plan w me c asked ended) where
@@ -159,7 +163,18 @@ module _ (plan : Plan) (w : World) (me : ClientNo) (asked : List Asked) (ended :
       by (inr x) (inl y) = let z = only x.0 a x.2 in absurd (apart b (get-contains asked k b y.0) (sym e ∙ ap (λ (q : Asked). q.call) (sym z.1)))
       by (inr x) (inr y) = let p = (only x.0 a x.2).0 in let q = (only y.0 b y.2).0 in let f = x.1 in let g = y.1 in omega (arith, p, q, f, g)
 
-    pub ask-midway : PendingOk plan (with_step w (asked ++ new_asked ∷ []) ended) me t ((thread_at c t).number + 1) now → UsesOwn w.history (replay_id me) o × IsReached w.state (down_in o) → IsSourced plan (ledger_of w) (begins w new_asked)
+    rising-all : RisesAsked (asked ++ new_asked ∷ [])
+    rising-all j k a b l at_j at_k client same_thread = by (get-append asked (new_asked ∷ []) j a at_j) (get-append asked (new_asked ∷ []) k b at_k) where
+      by : ((slice_get asked j ≡ Some a) × (j < length asked)) ⊎ ((i : ℕ) × (j ≡ length asked + i) × (slice_get (new_asked ∷ []) i ≡ Some a))
+          → ((slice_get asked k ≡ Some b) × (k < length asked)) ⊎ ((i : ℕ) × (k ≡ length asked + i) × (slice_get (new_asked ∷ []) i ≡ Some b)) → a.call.number < b.call.number
+      by (inl x) (inl y) = m.rising j k a b l x.0 y.0 client same_thread
+      by (inl x) (inr y) = let z = (only y.0 b y.2).1 in let f = (m.fresh a (get-contains asked j a x.0)).2 in
+          let n : a.call.number ≤ (thread_at c t).number = subst (λ (u : ThreadNo). a.call.number ≤ (thread_at c u).number) (same_thread ∙ ap (λ (q : Asked). q.call.thread) (sym z)) f in
+          let i : b.call.number ≡ (thread_at c t).number + 1 = ap (λ (q : Asked). q.call.number) (sym z) in omega (arith, n, i)
+      by (inr x) (inl y) = let f = x.1 in let g = y.1 in absurd (omega (arith, f, g, l))
+      by (inr x) (inr y) = let p = (only x.0 a x.2).0 in let q = (only y.0 b y.2).0 in let f = x.1 in let g = y.1 in absurd (omega (arith, p, q, f, g, l))
+
+    pub ask-midway : PendingOk plan (with_step w (asked ++ new_asked ∷ []) ended) me t ((thread_at c t).number + 1) now → UsesOwn w.history (replay_id me) o × IsReached w.state (down_in o) → IsSourced plan (ledger_of w) (begins_now w new_asked)
         → Midway plan w me (ask (replay_id me) t now o c).client (asked ++ new_asked ∷ []) ended
     ask-midway pends legal source = let known = client-on (with_step w asked ended) (with_step w (asked ++ new_asked ∷ []) ended) (step-more w asked (new_asked ∷ []) ended) plan me c m.client in record {
       client = record {
@@ -170,6 +185,7 @@ module _ (plan : Plan) (w : World) (me : ClientNo) (asked : List Asked) (ended :
       rises = λ x. le_trans (m.rises x) (grows x);
       fresh = λ x h. fresh-all x (Contains-append_cases asked (new_asked ∷ []) x h);
       distinct = distinct-all;
+      rising = rising-all;
       legal = λ x h. legal-all x (Contains-append_cases asked (new_asked ∷ []) x h);
       sources = λ x h. sources-all x (Contains-append_cases asked (new_asked ∷ []) x h);
     }
@@ -178,38 +194,38 @@ module _ (plan : Plan) (w : World) (me : ClientNo) (asked : List Asked) (ended :
         legal-all x (inl h) = m.legal x h
         legal-all x (inr h) = subst (λ (y : Asked). UsesOwn w.history y.call.client y.op × IsReached w.state (down_in y.op)) (sym (one-is new_asked x h)) legal
 
-        sources-all : (x : Asked) → Contains asked x ⊎ Contains (new_asked ∷ []) x → IsSourced plan (ledger_of w) (begins w x)
+        sources-all : (x : Asked) → Contains asked x ⊎ Contains (new_asked ∷ []) x → IsSourced plan (ledger_of w) (begins_now w x)
         sources-all x (inl h) = m.sources x h
-        sources-all x (inr h) = subst (λ (y : Asked). IsSourced plan (ledger_of w) (begins w y)) (sym (one-is new_asked x h)) source
+        sources-all x (inr h) = subst (λ (y : Asked). IsSourced plan (ledger_of w) (begins_now w y)) (sym (one-is new_asked x h)) source
 
     -- the request is known from now on
     pub known-now : Knows (with_step w (asked ++ new_asked ∷ []) ended) (next_request (replay_id me) t c) o
-    known-now = (begins w new_asked, Contains-append_right w.requests (map (begins w) (asked ++ new_asked ∷ [])) (begins w new_asked) (map-in (begins w) (asked ++ new_asked ∷ []) new_asked (Contains-append_right asked (new_asked ∷ []) new_asked (at-head new_asked []))), refl, refl)
+    known-now = (begins_now w new_asked, Contains-append_right w.requests (map (begins_now w) (asked ++ new_asked ∷ [])) (begins_now w new_asked) (map-in (begins_now w) (asked ++ new_asked ∷ []) new_asked (Contains-append_right asked (new_asked ∷ []) new_asked (at-head new_asked []))), refl, refl)
 
 -- operations of calls
-op-uses : (plan : Plan) (w : World) (me : ClientNo) (o : UserOp) (s round : ℕ) → (needs_session (need_of o) ≡ true → OpenedIn w.history s (replay_id me)) → UsesOwn w.history (replay_id me) (op_of plan o s round)
-op-uses plan w me (user.Lock object lock_call.Lock) s round h x is = subst (λ y. OpenedIn w.history y (replay_id me)) (same_some is) (h refl)
-op-uses plan w me (user.Lock object (lock_call.Try ms)) s round h x is = subst (λ y. OpenedIn w.history y (replay_id me)) (same_some is) (h refl)
-op-uses plan w me (user.Lock object lock_call.Unlock) s round h x is = subst (λ y. OpenedIn w.history y (replay_id me)) (same_some is) (h refl)
-op-uses plan w me (user.Lock object lock_call.Owner) s round h x is = absurd (none_some is)
-op-uses plan w me (user.Sem object (sem_call.Init n)) s round h x is = absurd (none_some is)
-op-uses plan w me (user.Sem object (sem_call.Acquire n)) s round h x is = subst (λ y. OpenedIn w.history y (replay_id me)) (same_some is) (h refl)
-op-uses plan w me (user.Sem object (sem_call.Try n ms)) s round h x is = subst (λ y. OpenedIn w.history y (replay_id me)) (same_some is) (h refl)
-op-uses plan w me (user.Sem object (sem_call.Release n)) s round h x is = subst (λ y. OpenedIn w.history y (replay_id me)) (same_some is) (h refl)
-op-uses plan w me (user.Sem object sem_call.Available) s round h x is = absurd (none_some is)
-op-uses plan w me (user.Sem object sem_call.Drain) s round h x is = subst (λ y. OpenedIn w.history y (replay_id me)) (same_some is) (h refl)
-op-uses plan w me (user.Sem object (sem_call.Increase n)) s round h x is = subst (λ y. OpenedIn w.history y (replay_id me)) (same_some is) (h refl)
-op-uses plan w me (user.Sem object (sem_call.Reduce n)) s round h x is = subst (λ y. OpenedIn w.history y (replay_id me)) (same_some is) (h refl)
-op-uses plan w me (user.Long object o) s round h x is = absurd (none_some is)
-op-uses plan w me (user.Ref object o) s round h x is = absurd (none_some is)
-op-uses plan w me (user.Jsem object o) s round h x is = absurd (none_some is)
-op-uses plan w me (user.Latch object o) s round h x is = absurd (none_some is)
-op-uses plan w me (user.Map object o) s round h x is = absurd (none_some is)
-op-uses plan w me (user.Destroy which object) s round h x is = absurd (none_some is)
-op-uses plan w me (user.CloseSession name) s round h x is = absurd (none_some is)
-op-uses plan w me (user.Group o) s round h x is = absurd (none_some is)
-op-uses plan w me (user.Member o) s round h x is = absurd (none_some is)
-op-uses plan w me (user.Change o) s round h x is = absurd (none_some is)
+op-uses : (plan : Plan) (w : World) (me : ClientNo) (o : UserOp) (s round : ℕ) → (uses_session (need_of o) ≡ true → OpenedIn w.history s (replay_id me)) → UsesOwn w.history (replay_id me) (op_of plan o s round)
+op-uses plan w me (user.Lock object lock_call.Lock) s round h x is = subst (λ y. OpenedIn w.history y (replay_id me)) (sym (one-is s x is)) (h refl)
+op-uses plan w me (user.Lock object (lock_call.Try ms)) s round h x is = subst (λ y. OpenedIn w.history y (replay_id me)) (sym (one-is s x is)) (h refl)
+op-uses plan w me (user.Lock object lock_call.Unlock) s round h x is = subst (λ y. OpenedIn w.history y (replay_id me)) (sym (one-is s x is)) (h refl)
+op-uses plan w me (user.Lock object lock_call.Owner) s round h x is = absurd (no-element x is)
+op-uses plan w me (user.Sem object (sem_call.Init n)) s round h x is = absurd (no-element x is)
+op-uses plan w me (user.Sem object (sem_call.Acquire n)) s round h x is = subst (λ y. OpenedIn w.history y (replay_id me)) (sym (one-is s x is)) (h refl)
+op-uses plan w me (user.Sem object (sem_call.Try n ms)) s round h x is = subst (λ y. OpenedIn w.history y (replay_id me)) (sym (one-is s x is)) (h refl)
+op-uses plan w me (user.Sem object (sem_call.Release n)) s round h x is = subst (λ y. OpenedIn w.history y (replay_id me)) (sym (one-is s x is)) (h refl)
+op-uses plan w me (user.Sem object sem_call.Available) s round h x is = absurd (no-element x is)
+op-uses plan w me (user.Sem object sem_call.Drain) s round h x is = subst (λ y. OpenedIn w.history y (replay_id me)) (sym (one-is s x is)) (h refl)
+op-uses plan w me (user.Sem object (sem_call.Increase n)) s round h x is = subst (λ y. OpenedIn w.history y (replay_id me)) (sym (one-is s x is)) (h refl)
+op-uses plan w me (user.Sem object (sem_call.Reduce n)) s round h x is = subst (λ y. OpenedIn w.history y (replay_id me)) (sym (one-is s x is)) (h refl)
+op-uses plan w me (user.Long object o) s round h x is = absurd (no-element x is)
+op-uses plan w me (user.Ref object o) s round h x is = absurd (no-element x is)
+op-uses plan w me (user.Jsem object o) s round h x is = absurd (no-element x is)
+op-uses plan w me (user.Latch object o) s round h x is = absurd (no-element x is)
+op-uses plan w me (user.Map object o) s round h x is = absurd (no-element x is)
+op-uses plan w me (user.Destroy which object) s round h x is = absurd (no-element x is)
+op-uses plan w me (user.CloseSession name) s round h x is = subst (λ y. OpenedIn w.history y (replay_id me)) (sym (one-is s x is)) (h refl)
+op-uses plan w me (user.Group o) s round h x is = absurd (no-element x is)
+op-uses plan w me (user.Member o) s round h x is = absurd (no-element x is)
+op-uses plan w me (user.Change o) s round h x is = absurd (no-element x is)
 
 -- a round 0 is always reached
 op-reached : (plan : Plan) (o : UserOp) (s : ℕ) (t : GroupState) → IsReached t (down_in (op_of plan o s 0))
@@ -272,10 +288,10 @@ module _ (plan : Plan) (w : World) (me : ClientNo) (ended : List (Invocation × 
   abbrev pub Fine : Did → Type 0
   Fine d = Midway plan w me d.client d.asked ended
 
-  sourced : (now : Pending) (o : Op) → MayAsk plan call.op o → IsSourced plan (ledger_of w) (begins w (record { group = now.group; call = next_request (replay_id me) call.thread c; op = o }))
+  sourced : (now : Pending) (o : Op) → MayAsk plan call.op o → IsSourced plan (ledger_of w) (begins_now w (record { group = now.group; call = next_request (replay_id me) call.thread c; op = o }))
   sourced now o may = inl (begun.0, begun.1, ap replay_id (sym begun.2), sym begun.3, begun.6, subst (λ x. MayAsk plan x o) (sym begun.4) may)
 
-  pub itself-fine : (s round : ℕ) → (needs_session (need_of call.op) ≡ true → OpenedIn w.history s (replay_id me)) → IsReached w.state (down_in (op_of plan call.op s round)) → Fine (ask_itself plan (replay_id me) call s round c)
+  pub itself-fine : (s round : ℕ) → (uses_session (need_of call.op) ≡ true → OpenedIn w.history s (replay_id me)) → IsReached w.state (down_in (op_of plan call.op s round)) → Fine (ask_itself plan (replay_id me) call s round c)
   itself-fine s round opened reached = ask-midway plan w me [] ended call.thread (pending_of call (purpose.ForItself s)) (op_of plan call.op s round) c m
       (record { of_task = begun; for_purpose = ((round, known-now plan w me [] ended call.thread (pending_of call (purpose.ForItself s)) (op_of plan call.op s round) c m), opened) })
       (op-uses plan w me call.op s round opened, reached) (sourced (pending_of call (purpose.ForItself s)) (op_of plan call.op s round) (inl (s, round, refl)))
@@ -283,14 +299,12 @@ module _ (plan : Plan) (w : World) (me : ClientNo) (ended : List (Invocation × 
   session-fine : (so : Option ℕ) → needs_session (need_of call.op) ≡ true → ((s : ℕ) → so ≡ Some s → OpenedIn w.history s (replay_id me)) → Fine (in_session plan (replay_id me) call so c)
   session-fine None needs opened = ask-midway plan w me [] ended call.thread (pending_of call purpose.ForSession) (op.Session session.Open) c m
       (record { of_task = begun; for_purpose = (needs, known-now plan w me [] ended call.thread (pending_of call purpose.ForSession) (op.Session session.Open) c m) })
-      (λ s is. absurd (none_some is), tt) (sourced (pending_of call purpose.ForSession) (op.Session session.Open) (inr (inl (needs, refl))))
+      (λ s is. absurd (no-element s is), tt) (sourced (pending_of call purpose.ForSession) (op.Session session.Open) (inr (inl (needs, refl))))
   session-fine (Some s) needs opened = itself-fine s 0 (λ n. opened s refl) (op-reached plan call.op s w.state)
 
-  closing-fine : (so : Option ℕ) → need_of call.op ≡ SessionToClose → Fine (closing plan (replay_id me) call so c)
-  closing-fine None is = idle-midway plan w me [] ended call.thread ((thread_at c call.thread).number + 1) c (omega arith) m
-  closing-fine (Some s) is = itself-fine s 0 (λ n. absurd (no (sym (ap needs_session is) ∙ n))) (op-reached plan call.op s w.state) where
-    no : false ≡ true → ⊥
-    no e = cc
+  closing-fine : (so : Option ℕ) → need_of call.op ≡ SessionToClose → ((s : ℕ) → so ≡ Some s → OpenedIn w.history s (replay_id me)) → Fine (closing plan (replay_id me) call so c)
+  closing-fine None is opened = idle-midway plan w me [] ended call.thread ((thread_at c call.thread).number + 1) c (omega arith) m
+  closing-fine (Some s) is opened = itself-fine s 0 (λ n. opened s refl) (op-reached plan call.op s w.state)
 
   own-opened : (g : ℕ) (so : Option OwnSession) → find nat_cmp c.sessions g ≡ so → (s : ℕ) → id_of so ≡ Some s → OpenedIn w.history s (replay_id me)
   own-opened g None is s e = absurd (none_some e)
@@ -301,12 +315,12 @@ module _ (plan : Plan) (w : World) (me : ClientNo) (ended : List (Invocation × 
   hold-opened name (Some h) is s e = subst (λ y. OpenedIn w.history y (replay_id me)) (same_some e) (rows-find lock_cmp lock_key (λ k (x : HoldRecord). HoldOk (with_step w [] ended) me k x) c.holds (call.thread.0, call.group.0, name) h is m.client.held).0
 
   need-fine : (need : Need) → need_of call.op ≡ need → Fine (by_need plan (replay_id me) need call c)
-  need-fine Nothing is = itself-fine 0 0 (λ n. absurd (no (sym (ap needs_session is) ∙ n))) (op-reached plan call.op 0 w.state) where
+  need-fine Nothing is = itself-fine 0 0 (λ n. absurd (no (sym (ap uses_session is) ∙ n))) (op-reached plan call.op 0 w.state) where
     no : false ≡ true → ⊥
     no e = cc
   need-fine (HoldingSession name) is = session-fine (holding_session call name c) (ap needs_session is) (hold-opened name (find lock_cmp c.holds (call.thread.0, call.group.0, name)) refl)
   need-fine ItsSession is = session-fine (session_in_group c call.group) (ap needs_session is) (own-opened call.group.0 (find nat_cmp c.sessions call.group.0) refl)
-  need-fine SessionToClose is = closing-fine (session_in_group c call.group) is
+  need-fine SessionToClose is = closing-fine (session_in_group c call.group) is (own-opened call.group.0 (find nat_cmp c.sessions call.group.0) refl)
   need-fine (Round name) is = let down = round-need call.op name (ap asks_round is) in
       ask-midway plan w me [] ended call.thread (pending_of call purpose.ForRound) (op.Latch name latch.Round) c m
       (record {
@@ -318,7 +332,7 @@ module _ (plan : Plan) (w : World) (me : ClientNo) (ended : List (Invocation × 
               (known-now plan w me [] ended call.thread (pending_of call purpose.ForRound) (op.Latch name latch.Round) c m),
         );
       })
-      (λ s used. absurd (none_some used), tt) (sourced (pending_of call purpose.ForRound) (op.Latch name latch.Round) (inr (inr (name, is, refl))))
+      (λ s used. absurd (no-element s used), tt) (sourced (pending_of call purpose.ForRound) (op.Latch name latch.Round) (inr (inr (name, is, refl))))
 
   pub go_on-fine : Fine (go_on plan (replay_id me) call c)
   go_on-fine = need-fine (need_of call.op) refl
@@ -357,9 +371,10 @@ module _ (plan : Plan) (w : World) (me : ClientNo) (ended : List (Invocation × 
     by (Round name) n = absurd (no n)
 
 -- a step whose ends and returns are known is allowed
-pub did : (plan : Plan) (w : World) (me : ClientNo) (d : Did) → Midway plan w me d.client d.asked d.ended → ((x : Invocation × Answer) → Contains d.ended x → AnsweredBy w.requests w.history w.shown.number x.0 x.1)
-    → ((r : Return) → Contains d.returns r → ToldBy (ledger_of (note me d w)) w.shown.number me r) → DidOk plan w me d
-did plan w me d m ended returns = record { client = m.client; rises = m.rises; fresh = m.fresh; distinct = m.distinct; legal = m.legal; ended = ended; sources = m.sources; returns = returns }
+pub did : (plan : Plan) (w : World) (me : ClientNo) (d : Did) → Midway plan w me d.client d.asked d.ended → ((x : Invocation × Answer) → Contains d.ended x → AnsweredBy w.requests w.history w.shown.number (length w.history) x.0 x.1)
+    → ((r : Return) → Contains d.returns r → ToldBy (ledger_of (note me d w)) w.shown.number me r)
+    → ((x : Invocation × Answer) (q : Request) → Contains d.ended x → Contains w.requests q → q.call ≡ x.0 → lets_go_on q.op x.1 ≡ false → (is_beat q.op ≡ true) ⊎ ((r : Return) × Contains d.returns r × (return_call me r ≡ x.0))) → DidOk plan w me d
+did plan w me d m ended returns all = record { client = m.client; rises = m.rises; fresh = m.fresh; distinct = m.distinct; rising = m.rising; legal = m.legal; ended = ended; sources = m.sources; returns = returns; all_returned = all }
 
 pub midway-now : (plan : Plan) (w : World) (me : ClientNo) (ended : List (Invocation × Answer)) → Good plan w → Midway plan w me (client_at w me) [] ended
 midway-now plan w me ended good = record {
@@ -367,6 +382,7 @@ midway-now plan w me ended good = record {
   rises = λ t. le_refl (thread_at (client_at w me) t).number;
   fresh = λ x h. absurd (no-element x h);
   distinct = λ j k a b at_j. absurd (none_some at_j);
+  rising = λ j k a b l at_j. absurd (none_some at_j);
   legal = λ x h. absurd (no-element x h);
   sources = λ x h. absurd (no-element x h);
 }
@@ -412,6 +428,7 @@ pub call-ok : (plan : Plan) (w : World) (me : ClientNo) (t : ThreadNo) (o : User
 call-ok plan w me t o good there = did plan w me (call_client plan (replay_id me) t o (client_at w me)) (subst (λ ended. Midway plan w me (go_on plan (replay_id me) call c).client (go_on plan (replay_id me) call c).asked ended) (sym ends) (go_on-fine plan w me [] call c m begun))
     (λ x h. absurd (no-element x (subst (λ xs. Contains xs x) ends h)))
     (λ r h. returns (need_of o) (closing-need o) r h)
+    (λ x q h. absurd (no-element x (subst (λ xs. Contains xs x) ends h)))
   where
     c : Client
     c = client_at w me

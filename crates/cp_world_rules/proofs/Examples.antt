@@ -40,7 +40,8 @@ use Rattle.cp_events.specs.declared.user_op.SemCall.TheVariants as sem_call
 use Rattle.cp_events.specs.declared.user_op.UserOp.{UserOp}
 use Rattle.cp_events.specs.declared.user_op.UserOp.TheVariants as user
 use Rattle.cp_world_rules.specs.Rows.{Committed}
-use Rattle.cp_world_rules.specs.Execution.{Settled, execution_of}
+use Rattle.cp_world_rules.specs.World.{shows_nothing}
+use Rattle.cp_world_rules.specs.Execution.{Settled, execution_of, histories_of}
 
 -- a header with so many clients, and no members
 abbrev pub plan_of : ℕ → List HoldLimit → Plan
@@ -82,14 +83,14 @@ effects_from n [] = []
 effects_from n (s ∷ steps) = record { number = n; event = s.event; ignored = s.ignored; opened = s.opened; returns = s.returns } ∷ effects_from (n + 1) steps
 
 abbrev pub Prints : ℕ → List HoldLimit → List Shows → Type 0
-Prints clients limits steps = (execution_of (record { plan = plan_of clients limits; lines = lines_of steps }) Settled).effects ≡ effects_from 1 steps
+Prints clients limits steps = (execution_of (record { plan = plan_of clients limits; lines = lines_of steps }) Settled).effects ≡ shows_nothing 0 event.Open ∷ effects_from 1 steps
 
 -- an entry: the event in which it was committed, client, thread, number and operation
 abbrev pub enters : ℕ → ℕ → ℕ → ℕ → Op → Committed
 enters e c t n o = record { event = e; entry = entry.Call (record { client = replay_id (client c); thread = record { 0 = t }; number = n }) o }
 
 abbrev pub Commits : ℕ → List HoldLimit → List Shows → List Committed → Type 0
-Commits clients limits steps history = (execution_of (record { plan = plan_of clients limits; lines = lines_of steps }) Settled).history ≡ history
+Commits clients limits steps history = (execution_of (record { plan = plan_of clients limits; lines = lines_of steps }) Settled).histories ≡ histories_of history
 
 abbrev pub at : ℕ → Object
 at letter = record { name = letter ∷ []; group = None }
@@ -337,7 +338,7 @@ pub what_is_ignored : Prints 1 [] (
 what_is_ignored = refl
 
 -- Lines that settle messages stand for no event.
-pub nothing_to_settle : (execution_of (record { plan = plan_of 1 []; lines = line.Settle 5 ∷ line.One (event.Deliver 1) ∷ line.Settle 1 ∷ [] }) Settled).effects ≡ effects_from 1 (is_ignored (event.Deliver 1) (ignored.NoMessage 0) ∷ [])
+pub nothing_to_settle : (execution_of (record { plan = plan_of 1 []; lines = line.Settle 5 ∷ line.One (event.Deliver 1) ∷ line.Settle 1 ∷ [] }) Settled).effects ≡ shows_nothing 0 event.Open ∷ effects_from 1 (is_ignored (event.Deliver 1) (ignored.NoMessage 0) ∷ [])
 nothing_to_settle = refl
 
 -- A call ends at its deadline. Its wait stays, and the lock is handed to it: so the group counts one hold more than the

@@ -9,6 +9,8 @@ use Rattle.cp_base.specs.declared.identifier.ClientNo.{ClientNo}
 use Rattle.cp_base.specs.declared.identifier.Invocation.{Invocation}
 use Rattle.cp_answers.specs.declared.answer.Answer.{Answer}
 use Rattle.cp_answers.specs.declared.answer.Answer.TheVariants as answer
+use Rattle.cp_base.proofs.Tests.{none_some, same_some}
+use Rattle.cp_ops.specs.declared.entry.Entry.{Entry}
 use Rattle.cp_ops.specs.declared.entry.Entry.TheVariants as entry
 use Rattle.cp_object_ops.specs.declared.latch_op.LatchOp.TheVariants as latch
 use Rattle.cp_ops.specs.declared.op.Op.{Op}
@@ -19,19 +21,24 @@ use Rattle.cp_group_state.specs.declared.rows.Waiter.{Waiter}
 use Rattle.cp_group_state.specs.Sessions.{is_open_for}
 use Rattle.cp_group_state.specs.GroupState.{GroupState, empty}
 use Rattle.cp_group_state.specs.Apply.{Applied, apply, run}
-use Rattle.cp_group_state.specs.History.{IsBelow, IsOrderlyAt, IsOrderlyFrom, IsReached}
+use Rattle.cp_group_state.specs.History.{IsBelow, IsOrderlyAt, IsOrderlyFrom, IsReached, sessions_in, sessions_in_call, sessions_in_op}
 use Rattle.cp_group_state.specs.Protected.{down_in, session_in}
 use Rattle.cp_group_state.specs.Invariants.{IsOrdered}
 use Rattle.cp_group_state.proofs.Ordered.{order-apply}
-use Rattle.cp_group_causes.specs.Moments.{SessionsAreOwn, WasOpenFor, session_used, state_before}
+use Rattle.cp_group_causes.specs.Moments.{WasOpenFor, session_used, state_before}
 use Rattle.cp_group_causes.proofs.Lists.{at-head, at-tail, get-in, get-last, get-left}
 use Rattle.cp_group_causes.proofs.Acts.{SessionsUpTo}
 use Rattle.cp_group_causes.proofs.After.{after-apply}
 use Rattle.cp_group_causes.proofs.Caused.{names-used}
 use Rattle.cp_client_rules.specs.Clients.{Asked, thread_at}
 use Rattle.cp_world_rules.specs.Rows.{Committed, End, Request, Returned, entries_of}
+use Rattle.cp_world_rules.specs.Requests.{NumbersRise}
+use Rattle.cp_world_rules.specs.Entries.{NamesOwnSessions}
+use Rattle.cp_world_rules.specs.Answers.{lets_go_on}
+use Rattle.cp_world_rules.specs.Returns.{request_of}
+use Rattle.cp_world_rules.proofs.Desks.{is_beat}
 use Rattle.cp_world_rules.specs.World.{World, client_at, client_of, commit, commit_all}
-use Rattle.cp_world_rules.proofs.Lists.{after-one_more, all_after, entries-length, entries-more, get-append, moment-last, orderly-one_more, run-length, run-one_more}
+use Rattle.cp_world_rules.proofs.Lists.{after-one_more, all_after, entries-length, entries-more, get-append, moment-last, one-there, orderly-one_more, run-length, run-one_more}
 use Rattle.cp_world_rules.proofs.Rounds.{Capped, rounds-applied}
 use Rattle.cp_world_rules.proofs.GroupLaws.{StepSound, Tells, call-applied, prepares, tells-plain}
 use Rattle.cp_world_rules.proofs.Ledgers.{ClientOk, Extends, IsSourced, OpenedIn, ToldBy, client-on, ledger_of, opened-on, source-on, told-on, was-on}
@@ -48,9 +55,10 @@ pub record Entered (requests : List Request) (history : List Committed) (now : �
   pub own_is : own.entry ≡ entry.Call call o
   pub begins : request.event ≤ own.event
   pub by_now : own.event ≤ now
+  pub longer : request.length ≤ p
 
 -- An answer that the fold of the history gave to the call, at its entry or after it.
-pub record AnsweredBy (requests : List Request) (history : List Committed) (now : ℕ) (call : Invocation) (a : Answer) : Type 0 where
+pub record AnsweredBy (requests : List Request) (history : List Committed) (now until : ℕ) (call : Invocation) (a : Answer) : Type 0 where
   pub o : Op
   pub entered : Entered requests history now call o
   pub q : ℕ
@@ -62,6 +70,7 @@ pub record AnsweredBy (requests : List Request) (history : List Committed) (now 
   pub order : entered.p ≤ q
   pub commits : entered.own.event ≤ giving.event
   pub by_then : giving.event ≤ now
+  pub in_length : q < until
 
 -- what an answer to a preparing request still tells
 abbrev pub Fits : List Committed → GroupState → ClientId → Op → Answer → Type 0
@@ -70,12 +79,23 @@ Fits history s client (op.Latch name latch.Round) (answer.Value r) = IsReached s
 Fits history s client o a = Unit {0}
 
 pub record Given (w : World) (call : Invocation) (a : Answer) : Type 0 where
-  pub answered : AnsweredBy w.requests w.history w.shown.number call a
+  pub answered : AnsweredBy w.requests w.history w.shown.number (length w.history) call a
   pub fits : Fits w.history w.state call.client answered.o a
 
--- the sessions that an operation works in were opened for the client
+-- the sessions that an operation names
+in-call : (so : Option ℕ) (s : ℕ) → so ≡ Some s → Contains (sessions_in_call so) s
+in-call None s e = absurd (none_some e)
+in-call (Some t) s e = subst (λ x. Contains (t ∷ []) x) (same_some e) (at-head t [])
+
+pub used-in : (o : Op) (s : ℕ) → session_used o ≡ Some s → Contains (sessions_in_op o) s
+used-in (op.Session session.Open) s e = absurd (none_some e)
+used-in (op.Session (session.Beat t)) s e = subst (λ x. Contains (t ∷ []) x) (same_some e) (at-head t [])
+used-in (op.Session (session.Close t)) s e = absurd (none_some e)
+used-in o s e = in-call (session_in o) s e
+
+-- the sessions that an operation names were opened for the client
 abbrev pub UsesOwn : List Committed → ClientId → Op → Type 0
-UsesOwn history client o = (s : ℕ) → session_used o ≡ Some s → OpenedIn history s client
+UsesOwn history client o = (s : ℕ) → Contains (sessions_in_op o) s → OpenedIn history s client
 
 -- a request that may be committed
 pub record IsReady (w : World) (a : Asked) : Type 0 where
@@ -84,6 +104,7 @@ pub record IsReady (w : World) (a : Asked) : Type 0 where
   pub mine : request.call ≡ a.call
   pub op_is : request.op ≡ a.op
   pub by_now : request.event ≤ w.shown.number
+  pub no_longer : request.length ≤ length w.history
   pub uses : UsesOwn w.history a.call.client a.op
   pub reached : IsReached w.state (down_in a.op)
 
@@ -91,31 +112,42 @@ pub record IsReady (w : World) (a : Asked) : Type 0 where
 abbrev pub Distinct : List Request → Type 0
 Distinct rs = (j k : ℕ) (a b : Request) → slice_get rs j ≡ Some a → slice_get rs k ≡ Some b → a.call ≡ b.call → j ≡ k
 
+-- an answer that ended a request without letting its call go on was returned then, if the request is no beat
+abbrev pub IsReturned : List Returned → ℕ → Invocation → Op → Type 0
+IsReturned returned now call o = (is_beat o ≡ true) ⊎ ((r : Returned) × Contains returned r × (r.event ≡ now) × (request_of r ≡ call))
+
+abbrev pub AllReturned : List Request → List End → List Returned → Type 0
+AllReturned requests ends returned = (q : Request) (e : End) → Contains requests q → Contains ends e → q.call ≡ e.call → lets_go_on q.op e.answer ≡ false → IsReturned returned e.event e.call q.op
+
 pub record Good (plan : Plan) (w : World) : Type 0 where
   pub state : all_after 1 (entries_of w.history) empty ≡ w.state
   pub ordered : IsOrdered w.state
   pub orderly : IsOrderlyFrom 1 (entries_of w.history) empty
-  pub own : SessionsAreOwn (entries_of w.history)
+  pub own : NamesOwnSessions (entries_of w.history)
+  pub named : (place : ℕ) (call : Invocation) (o : Op) (s : ℕ) → slice_get (entries_of w.history) place ≡ Some (entry.Call call o) → Contains (sessions_in_op o) s → s ≤ place
   pub upto : SessionsUpTo (length w.history) w.state
   pub rounds : Capped w.state
   pub waiters : (x : Waiter) → Contains w.state.waiters x → (o : Op) × Entered w.requests w.history w.shown.number x.call o × (prepares o ≡ false)
   pub queue : (a : Invocation × Answer) → Contains w.queue a → Given w a.0 a.1
-  pub ends : (e : End) → Contains w.ends e → AnsweredBy w.requests w.history e.event e.call e.answer
+  pub ends : (e : End) → Contains w.ends e → AnsweredBy w.requests w.history e.event e.length e.call e.answer
   pub ended_by_now : (e : End) → Contains w.ends e → e.event ≤ w.shown.number
   pub clients_are : (r : Request) → Contains w.requests r → r.call.client ≡ replay_id (client_of r.call)
   pub numbers : (r : Request) → Contains w.requests r → r.call.number ≤ (thread_at (client_at w (client_of r.call)) r.call.thread).number
   pub distinct : Distinct w.requests
-  pub entered : (c : Committed) → Contains w.history c → (r : Request) × Contains w.requests r × (c.entry ≡ entry.Call r.call r.op) × (r.event ≤ c.event)
+  pub rising : NumbersRise w.requests
+  pub entered : (place : ℕ) (c : Committed) → slice_get w.history place ≡ Some c → (r : Request) × Contains w.requests r × (c.entry ≡ entry.Call r.call r.op) × (r.event ≤ c.event) × (r.length ≤ place)
   pub sources : (r : Request) → Contains w.requests r → IsSourced plan (ledger_of w) r
   pub returns : (r : Returned) → Contains w.returns r → ToldBy (ledger_of w) r.event r.client r.what
   pub clients : (me : ClientNo) → ClientOk plan (ledger_of w) me (client_at w me)
+  pub all_returned : AllReturned w.requests w.ends w.returns
 
 -- what stays when the history and events go on
 abbrev pub entered-on : (rs : List Request) (history more : List Committed) (now later : ℕ) (call : Invocation) (o : Op) → now ≤ later → Entered rs history now call o → Entered rs (history ++ more) later call o
-entered-on rs history more now later call o l h = record { request = h.request; begun = h.begun; mine = h.mine; op_is = h.op_is; p = h.p; own = h.own; own_at = get-left history more h.p h.own h.own_at; own_is = h.own_is; begins = h.begins; by_now = le_trans h.by_now l }
+entered-on rs history more now later call o l h = record { request = h.request; begun = h.begun; mine = h.mine; op_is = h.op_is; p = h.p; own = h.own; own_at = get-left history more h.p h.own h.own_at; own_is = h.own_is; begins = h.begins; by_now = le_trans h.by_now l; longer = h.longer }
 
-abbrev pub answered-on : (rs : List Request) (history : List Committed) (c : Committed) (now : ℕ) (call : Invocation) (a : Answer) → AnsweredBy rs history now call a → AnsweredBy rs (history ++ c ∷ []) now call a
-answered-on rs history c now call a h = record {
+abbrev pub answered-on : (rs : List Request) (history : List Committed) (c : Committed) (now until later : ℕ) (call : Invocation) (a : Answer) → until ≤ later → AnsweredBy rs history now until call a
+    → AnsweredBy rs (history ++ c ∷ []) now later call a
+answered-on rs history c now until later call a l h = record {
   o = h.o;
   entered = entered-on rs history (c ∷ []) now now call h.o (le_refl now) h.entered;
   q = h.q;
@@ -128,6 +160,7 @@ answered-on rs history c now call a h = record {
   order = h.order;
   commits = h.commits;
   by_then = h.by_then;
+  in_length = le_trans h.in_length l;
 }
 
 reached-on : (s t : GroupState) → ((name : List ℕ) (round : ℕ) → IsReached s (Some (name, round)) → IsReached t (Some (name, round))) → (down : Option (List ℕ × ℕ)) → IsReached s down → IsReached t down
@@ -144,7 +177,7 @@ below-own : (n : ℕ) (history : List Committed) (client : ClientId) (o : Op) �
 below-own n history client o h uses = at (session_in o) refl where
   at : (so : Option ℕ) → session_in o ≡ so → IsBelow n so
   at None is = tt
-  at (Some s) is = let opened = uses s (names-used o s is) in let l = opened.within in omega (arith, h, l)
+  at (Some s) is = let opened = uses s (used-in o s (names-used o s is)) in let l = opened.within in omega (arith, h, l)
 
 module _ (plan : Plan) (w : World) (a : Asked) (good : Good plan w) (ready : IsReady w a) where
   abbrev pub index : ℕ
@@ -173,7 +206,7 @@ module _ (plan : Plan) (w : World) (a : Asked) (good : Good plan w) (ready : IsR
       (subst (IsOrderlyAt index (entry.Call a.call a.op)) (sym good.state) (below-own index w.history a.call.client a.op refl ready.uses, ready.reached))
 
   -- sessions
-  own-here : SessionsAreOwn (entries_of w.history ++ entry.Call a.call a.op ∷ [])
+  own-here : NamesOwnSessions (entries_of w.history ++ entry.Call a.call a.op ∷ [])
   own-here place call o s is used = at (get-append (entries_of w.history) (entry.Call a.call a.op ∷ []) place (entry.Call call o) is) where
     same_call : {c d : Invocation} {p q : Op} → entry.Call c p ≡ entry.Call d q → c ≡ d
     same_call e = cc
@@ -190,7 +223,7 @@ module _ (plan : Plan) (w : World) (a : Asked) (good : Good plan w) (ready : IsR
       no x = cc
 
     new : place ≡ length w.history → entry.Call a.call a.op ≡ entry.Call call o → WasOpenFor (entries_of w.history ++ entry.Call a.call a.op ∷ []) place s call.client
-    new at_end same = let opened = ready.uses s (ap session_used (same_op same) ∙ used) in
+    new at_end same = let opened = ready.uses s (subst (λ p. Contains (sessions_in_op p) s) (sym (same_op same)) used) in
         subst (λ (c : Invocation). WasOpenFor (entries_of w.history ++ entry.Call a.call a.op ∷ []) place s c.client) (same_call same)
         (subst (λ n. WasOpenFor (entries_of w.history ++ entry.Call a.call a.op ∷ []) n s a.call.client) (sym at_end)
         (was-on (entries_of w.history) (entry.Call a.call a.op ∷ []) (length w.history) s a.call.client (omega (arith, plain-size)) opened.was))
@@ -199,6 +232,16 @@ module _ (plan : Plan) (w : World) (a : Asked) (good : Good plan w) (ready : IsR
         → WasOpenFor (entries_of w.history ++ entry.Call a.call a.op ∷ []) place s call.client
     at (inl h) = let l = h.1 in was-on (entries_of w.history) (entry.Call a.call a.op ∷ []) place s call.client (omega (arith, l)) (good.own place call o s h.0 used)
     at (inr h) = let e = last h.0 h.2 in let p = h.1 in let z = e.0 in new (omega (arith, p, z, plain-size)) e.1
+
+  named-here : (place : ℕ) (call : Invocation) (o : Op) (s : ℕ) → slice_get (entries_of w.history ++ entry.Call a.call a.op ∷ []) place ≡ Some (entry.Call call o) → Contains (sessions_in_op o) s → s ≤ place
+  named-here place call o s is used = at (get-append (entries_of w.history) (entry.Call a.call a.op ∷ []) place (entry.Call call o) is) where
+    same_op : {c d : Invocation} {p q : Op} → entry.Call c p ≡ entry.Call d q → p ≡ q
+    same_op e = cc
+
+    at : ((slice_get (entries_of w.history) place ≡ Some (entry.Call call o)) × (place < length (entries_of w.history))) ⊎ ((k : ℕ) × (place ≡ length (entries_of w.history) + k) × (slice_get (entry.Call a.call a.op ∷ []) k ≡ Some (entry.Call call o))) → s ≤ place
+    at (inl h) = good.named place call o s h.0 used
+    at (inr h) = let e = one-there (entry.Call a.call a.op) h.0 (entry.Call call o) h.2 in let p = h.1 in
+        let opened = ready.uses s (subst (λ q. Contains (sessions_in_op q) s) (sym (same_op e.1)) used) in let l = opened.within in omega (arith, p, l, plain-size)
 
   upto-here : SessionsUpTo index done.state
   upto-here = (after-apply index (entry.Call a.call a.op) w.state).upto (λ x client h. let l = good.upto x client h in omega (arith, l))
@@ -220,7 +263,7 @@ module _ (plan : Plan) (w : World) (a : Asked) (good : Good plan w) (ready : IsR
   keeps-rounds = rounds-applied index a.call a.op w.state good.rounds
 
   own-entered : Entered w.requests (w.history ++ here ∷ []) w.shown.number a.call a.op
-  own-entered = record { request = ready.request; begun = ready.begun; mine = ready.mine; op_is = ready.op_is; p = length w.history; own = here; own_at = get-last w.history here; own_is = refl; begins = ready.by_now; by_now = le_refl w.shown.number }
+  own-entered = record { request = ready.request; begun = ready.begun; mine = ready.mine; op_is = ready.op_is; p = length w.history; own = here; own_at = get-last w.history here; own_is = refl; begins = ready.by_now; by_now = le_refl w.shown.number; longer = ready.no_longer }
 
   step-here : slice_get (run 1 (entries_of (w.history ++ here ∷ [])) empty) (length w.history) ≡ Some done
   step-here = subst (λ es. slice_get (run 1 es empty) (length w.history) ≡ Some done) (sym (entries-more w.history (here ∷ [])))
@@ -255,13 +298,14 @@ module _ (plan : Plan) (w : World) (a : Asked) (good : Good plan w) (ready : IsR
       order = let l = get-in (w.history ++ here ∷ []) e.p e.own e.own_at in omega (arith, l, size);
       commits = e.by_now;
       by_then = le_refl w.shown.number;
+      in_length = omega (arith, size);
     };
     fits = fits-told x.0.client p x.1 tells;
   }
 
   pub given-later : (x : Invocation × Answer) → Given w x.0 x.1 → Given (commit a w) x.0 x.1
   given-later x g = record {
-    answered = answered-on w.requests w.history here w.shown.number x.0 x.1 g.answered;
+    answered = answered-on w.requests w.history here w.shown.number (length w.history) (length (w.history ++ here ∷ [])) x.0 x.1 (omega (arith, size)) g.answered;
     fits = fits-on w.history (here ∷ []) w.state done.state x.0.client keeps-rounds.1 g.answered.o x.1 g.fits;
   }
 
@@ -274,14 +318,18 @@ module _ (plan : Plan) (w : World) (a : Asked) (good : Good plan w) (ready : IsR
         (tells-plain done.state x.0.client r.0 x.1 r.2)
     at (inr k) = new-answer x a.op h (subst (λ c. Entered w.requests (w.history ++ here ∷ []) w.shown.number c a.op) (sym k.0) own-entered) (subst (λ (c : Invocation). Tells done.state c.client a.op x.1) (sym k.0) k.1)
 
-  in-history : (c : Committed) → Contains w.history c ⊎ (here ≡ c) → (r : Request) × Contains w.requests r × (c.entry ≡ entry.Call r.call r.op) × (r.event ≤ c.event)
-  in-history c (inl h) = good.entered c h
-  in-history c (inr e) = (
-    ready.request,
-    ready.begun,
-    ap (λ (x : Committed). x.entry) (sym e) ∙ (ap (λ (c : Invocation). entry.Call c a.op) (sym ready.mine) ∙ ap (λ (p : Op). entry.Call ready.request.call p) (sym ready.op_is)),
-    subst (λ (x : Committed). ready.request.event ≤ x.event) e ready.by_now,
-  )
+  in-history : (place : ℕ) (c : Committed) → ((slice_get w.history place ≡ Some c) × (place < length w.history)) ⊎ ((k : ℕ) × (place ≡ length w.history + k) × (slice_get (here ∷ []) k ≡ Some c))
+      → (r : Request) × Contains w.requests r × (c.entry ≡ entry.Call r.call r.op) × (r.event ≤ c.event) × (r.length ≤ place)
+  in-history place c (inl h) = good.entered place c h.0
+  in-history place c (inr h) = by (one-there here h.0 c h.2).1 where
+    by : here ≡ c → (r : Request) × Contains w.requests r × (c.entry ≡ entry.Call r.call r.op) × (r.event ≤ c.event) × (r.length ≤ place)
+    by e = (
+      ready.request,
+      ready.begun,
+      ap (λ (x : Committed). x.entry) (sym e) ∙ (ap (λ (c : Invocation). entry.Call c a.op) (sym ready.mine) ∙ ap (λ (p : Op). entry.Call ready.request.call p) (sym ready.op_is)),
+      subst (λ (x : Committed). ready.request.event ≤ x.event) e ready.by_now,
+      (let l = ready.no_longer in let p = h.1 in omega (arith, l, p)),
+    )
 
   pub ledger-here : Extends (ledger_of w) (ledger_of (commit a w))
   ledger-here = record { history = λ s client h. opened-on w.history (here ∷ []) s client h; requests = λ r h. h; ends = λ e h. h; calls = λ c h. h; moves = λ c h. h; now = le_refl w.shown.number }
@@ -293,6 +341,7 @@ module _ (plan : Plan) (w : World) (a : Asked) (good : Good plan w) (ready : IsR
     mine = h.mine;
     op_is = h.op_is;
     by_now = h.by_now;
+    no_longer = let l = h.no_longer in omega (arith, l, size);
     uses = λ s used. opened-on w.history (here ∷ []) s b.call.client (h.uses s used);
     reached = reached-on w.state done.state keeps-rounds.1 (down_in b.op) h.reached;
   }
@@ -302,20 +351,23 @@ module _ (plan : Plan) (w : World) (a : Asked) (good : Good plan w) (ready : IsR
     state = subst (λ es. all_after 1 es empty ≡ done.state) (sym (entries-more w.history (here ∷ []))) state-here;
     ordered = order-apply index (entry.Call a.call a.op) w.state good.ordered;
     orderly = subst (λ es. IsOrderlyFrom 1 es empty) (sym (entries-more w.history (here ∷ []))) orderly-here;
-    own = subst SessionsAreOwn (sym (entries-more w.history (here ∷ []))) own-here;
+    own = subst NamesOwnSessions (sym (entries-more w.history (here ∷ []))) own-here;
+    named = subst (λ (es : List Entry). (place : ℕ) (call : Invocation) (o : Op) (s : ℕ) → slice_get es place ≡ Some (entry.Call call o) → Contains (sessions_in_op o) s → s ≤ place) (sym (entries-more w.history (here ∷ []))) named-here;
     upto = subst (λ n. SessionsUpTo n done.state) (sym size) upto-here;
     rounds = keeps-rounds.0;
     waiters = λ x h. new-waiter x (sound.0 x h);
     queue = λ x h. all-answers x (Contains-append_cases w.queue done.answers x h);
-    ends = λ e h. answered-on w.requests w.history here e.event e.call e.answer (good.ends e h);
+    ends = λ e h. answered-on w.requests w.history here e.event e.length e.length e.call e.answer (le_refl e.length) (good.ends e h);
     ended_by_now = good.ended_by_now;
     clients_are = good.clients_are;
     numbers = good.numbers;
     distinct = good.distinct;
-    entered = λ c h. in-history c (Contains-push_cases w.history here c h);
+    rising = good.rising;
+    entered = λ place c h. in-history place c (get-append w.history (here ∷ []) place c h);
     sources = λ r h. source-on (ledger_of w) (ledger_of (commit a w)) ledger-here plan r (good.sources r h);
     returns = λ r h. told-on (ledger_of w) (ledger_of (commit a w)) ledger-here r.event r.client r.what (good.returns r h);
     clients = λ me. client-on (ledger_of w) (ledger_of (commit a w)) ledger-here plan me (client_at w me) (good.clients me);
+    all_returned = good.all_returned;
   }
 
 -- all requests that are asked are committed

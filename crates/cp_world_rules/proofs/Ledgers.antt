@@ -1,5 +1,5 @@
 -- What the records of a client rest on: requests, their ends, calls, clocks, and sessions that were opened.
-use Rattle.std.proofs.Common.{◌≡◌, ℕ, ◌+◌, ◌≤◌, ◌⊎◌, inl, inr, true, List, ◌++◌, Some, None, Option, sym, subst, arith, length, le_refl, le_trans}
+use Rattle.std.proofs.Common.{◌≡◌, ℕ, ◌+◌, ◌≤◌, ◌⊎◌, inl, inr, Bool, true, false, List, ◌++◌, Some, None, Option, sym, subst, arith, length, le_refl, le_trans}
 use Rattle.std.specs.Prelude.{All, Contains}
 use Rattle.std.proofs.lemmas.List.{length-append}
 use Rattle.std.proofs.lemmas.List.Elements.{All-weaker}
@@ -33,14 +33,14 @@ use Rattle.cp_client_rules.specs.declared.rows.Purpose.{Purpose}
 use Rattle.cp_client_rules.specs.declared.rows.Purpose.TheVariants as purpose
 use Rattle.cp_client_rules.specs.declared.rows.Task.{Task}
 use Rattle.cp_client_rules.specs.declared.rows.Task.TheVariants as task
-use Rattle.cp_client_rules.specs.Asking.{need_of, op_of, wish_of}
+use Rattle.cp_client_rules.specs.Asking.{Need, Nothing, HoldingSession, ItsSession, SessionToClose, Round, need_of, op_of, wish_of}
 use Rattle.cp_client_rules.specs.Clients.{Client, LockKey, lock_cmp, thread_at}
 use Rattle.cp_client_rules.specs.Calls.{deadline_of, patience}
 use Rattle.cp_client_rules.specs.Ticks.{own_thread}
 use Rattle.cp_world_rules.specs.Rows.{Called, Committed, End, Moved, Request, entries_of}
 use Rattle.cp_world_rules.specs.World.{World}
-use Rattle.cp_world_rules.specs.Promises.{MayAsk, needs_session}
-use Rattle.cp_world_rules.specs.Returns.{request_of}
+use Rattle.cp_world_rules.specs.Requests.{MayAsk, needs_session}
+use Rattle.cp_world_rules.specs.Answers.{lets_go_on}
 use Rattle.cp_world_rules.proofs.Lists.{entries-length, entries-more, moment-front}
 
 -- the session was opened for the client
@@ -109,6 +109,14 @@ pub record Fenced (l : Ledger) (me : ClientNo) (thread : ℕ) (name : List ℕ) 
 abbrev pub HoldOk : Ledger → ClientNo → LockKey → HoldRecord → Type 0
 HoldOk l me key h = OpenedIn l.history h.session (replay_id me) × Fenced l me key.0 key.2
 
+-- whether a call works in a session, which it keeps or closes
+abbrev pub uses_session : Need → Bool
+uses_session (HoldingSession name) = true
+uses_session ItsSession = true
+uses_session SessionToClose = true
+uses_session Nothing = false
+uses_session (Round name) = false
+
 -- the task of a thread is a call that it began, or a beat
 abbrev pub TaskOk : Ledger → ClientNo → ThreadNo → Option ℕ → Task → Type 0
 TaskOk l me t deadline (task.Calls o) = (c : Called) × Contains l.calls c × (c.client ≡ me) × (c.thread ≡ t) × (c.op ≡ o) × (deadline ≡ deadline_of c.clock (wish_of o)) × (c.event ≤ l.now)
@@ -118,8 +126,8 @@ TaskOk l me t deadline (task.Beats s) = deadline ≡ None
 abbrev pub PurposeOk : Plan → Ledger → ClientNo → Invocation → Task → Purpose → Type 0
 PurposeOk plan l me call (task.Calls o) purpose.ForSession = (needs_session (need_of o) ≡ true) × Knows l call (op.Session session.Open)
 PurposeOk plan l me call (task.Calls o) purpose.ForRound = (object : Object) × (o ≡ user.Latch object latch_call.Down) × Knows l call (op.Latch object.name latch.Round)
-PurposeOk plan l me call (task.Calls o) (purpose.ForItself s) = ((round : ℕ) × Knows l call (op_of plan o s round)) × (needs_session (need_of o) ≡ true → OpenedIn l.history s (replay_id me))
-PurposeOk plan l me call (task.Beats s) p = Unit {0}
+PurposeOk plan l me call (task.Calls o) (purpose.ForItself s) = ((round : ℕ) × Knows l call (op_of plan o s round)) × (uses_session (need_of o) ≡ true → OpenedIn l.history s (replay_id me))
+PurposeOk plan l me call (task.Beats s) p = Knows l call (op.Session (session.Beat s))
 
 pub record PendingOk (plan : Plan) (l : Ledger) (me : ClientNo) (t : ThreadNo) (number : ℕ) (now : Pending) : Type 0 where
   pub of_task : TaskOk l me t now.deadline now.task
@@ -135,10 +143,15 @@ abbrev pub IsSourced : Plan → Ledger → Request → Type 0
 IsSourced plan l r = ((c : Called) × Contains l.calls c × (r.call.client ≡ replay_id c.client) × (r.call.thread ≡ c.thread) × (c.event ≤ r.event) × MayAsk plan c.op r.op)
     ⊎ ((m : Moved) × (s : ℕ) × Contains l.moves m × (m.event ≡ r.event) × (r.call.client ≡ replay_id m.client) × (r.call.thread ≡ own_thread) × (r.op ≡ op.Session (session.Beat s)))
 
+-- the last request of a call that returns
+abbrev pub return_call : ClientNo → Return → Invocation
+return_call client r = record { client = replay_id client; thread = r.thread; number = r.number }
+
 -- what a return tells, by the rows of the ledger
 pub data ToldBy (l : Ledger) (number : ℕ) (client : ClientNo) (r : Return) : Type 0 where
-  by_end : (e : End) → Contains l.ends e → e.event ≡ number → e.call ≡ request_of client r → r.ending ≡ ending.Answered e.answer → ToldBy l number client r
-  by_loss : (e : End) (s : ℕ) (name : List ℕ) → Contains l.ends e → e.event ≡ number → e.call ≡ request_of client r → e.answer ≡ answer.SessionExpired s → OnLock l e.call name → (f : Fenced l client r.thread.0 name)
+  by_end : (e : End) → Contains l.ends e → e.event ≡ number → e.call ≡ return_call client r → r.ending ≡ ending.Answered e.answer
+      → (q : Request) → Contains l.requests q → q.call ≡ e.call → lets_go_on q.op e.answer ≡ false → ToldBy l number client r
+  by_loss : (e : End) (s : ℕ) (name : List ℕ) → Contains l.ends e → e.event ≡ number → e.call ≡ return_call client r → e.answer ≡ answer.SessionExpired s → OnLock l e.call name → (f : Fenced l client r.thread.0 name)
       → f.taken.event ≤ number → r.ending ≡ ending.Answered answer.OwnershipLost → ToldBy l number client r
   by_call : (c : Called) (name : Option (List ℕ)) → Contains l.calls c → c.event ≡ number → c.client ≡ client → c.thread ≡ r.thread → c.op ≡ user.CloseSession name → r.ending ≡ ending.Answered answer.Ok → ToldBy l number client r
   by_clock : (c : Called) (m : Moved) (wish : ℕ) → Contains l.calls c → c.client ≡ client → c.thread ≡ r.thread → wish_of c.op ≡ Some wish → Contains l.moves m → m.event ≡ number → m.client ≡ client → c.event ≤ number
@@ -174,7 +187,7 @@ module _ (l m : Ledger) (more : Extends l m) where
   purpose-on plan me call (task.Calls o) purpose.ForSession h = (h.0, knows-on call (op.Session session.Open) h.1)
   purpose-on plan me call (task.Calls o) purpose.ForRound h = (h.0, h.1, knows-on call (op.Latch h.0.name latch.Round) h.2)
   purpose-on plan me call (task.Calls o) (purpose.ForItself s) h = ((h.0.0, knows-on call (op_of plan o s h.0.0) h.0.1), λ n. more.history s (replay_id me) (h.1 n))
-  purpose-on plan me call (task.Beats s) p h = tt
+  purpose-on plan me call (task.Beats s) p h = knows-on call (op.Session (session.Beat s)) h
 
   pub pending-on : (plan : Plan) (me : ClientNo) (t : ThreadNo) (number : ℕ) (now : Pending) → PendingOk plan l me t number now → PendingOk plan m me t number now
   pending-on plan me t number now h = record { of_task = task-on me t now.deadline now.task h.of_task; for_purpose = purpose-on plan me _ now.task now.purpose h.for_purpose }
@@ -191,7 +204,7 @@ module _ (l m : Ledger) (more : Extends l m) where
   source-on plan r (inr h) = inr (h.0, h.1, more.moves h.0 h.2, h.3, h.4, h.5, h.6)
 
   pub told-on : (number : ℕ) (client : ClientNo) (r : Return) → ToldBy l number client r → ToldBy m number client r
-  told-on number client r (by_end e there at call ends) = by_end e (more.ends e there) at call ends
+  told-on number client r (by_end e there at call ends q in_q of_q fin) = by_end e (more.ends e there) at call ends q (more.requests q in_q) of_q fin
   told-on number client r (by_loss e s name there at call expired lock f before ends) = by_loss e s name (more.ends e there) at call expired (on_lock-on e.call name lock) (fenced-on client r.thread.0 name f) before ends
   told-on number client r (by_call c name there at mine thread is ends) = by_call c name (more.calls c there) at mine thread is ends
   told-on number client r (by_clock c m wish there mine thread bounded moved at own later passed ends) = by_clock c m wish (more.calls c there) mine thread bounded (more.moves m moved) at own later passed ends

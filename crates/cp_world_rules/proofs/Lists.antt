@@ -8,6 +8,7 @@ use Rattle.std.specs.BTreeMap.{is_at}
 use Rattle.std.proofs.Common.{Bool, true, false, if◌then◌else◌}
 use Rattle.std.proofs.lemmas.List.Elements.{All-cons, All-head, All-tail, All-weaker}
 use Rattle.std.proofs.lemmas.List.{map-append}
+use Rattle.cp_base.proofs.Tests.{none_some}
 use Rattle.cp_ops.specs.declared.entry.Entry.{Entry}
 use Rattle.cp_group_state.specs.GroupState.{GroupState}
 use Rattle.cp_group_state.specs.Apply.{apply, run}
@@ -61,6 +62,15 @@ get-append {X} (x ∷ xs) ys (suc j) a h = at (get-append xs ys j a h) where
   at (inl r) = let l = r.1 in inl (r.0, omega (arith, l))
   at (inr r) = let e = r.1 in inr (r.0, omega (arith, e), r.2)
 
+-- the one element of a list
+pub one-there : {X : Type 0} (x : X) (k : ℕ) (y : X) → slice_get (x ∷ []) k ≡ Some y → (k ≡ 0) × (x ≡ y)
+one-there {X} x zero y e = (refl, some e) where
+  some : Some x ≡ Some y → x ≡ y
+  some k = cc
+one-there {X} x (suc k) y e = absurd (no e) where
+  no : None ≡ Some y → ⊥
+  no f = cc
+
 -- an element that a list contains stands at a place
 pub get-some : {X : Type 0} (xs : List X) (x : X) → Contains xs x → (k : ℕ) × (slice_get xs k ≡ Some x)
 get-some [] x h = absurd (no-element x h)
@@ -81,6 +91,19 @@ get-map f (x ∷ xs) (suc k) y h = get-map f xs k y h
 pub push-none : {X : Type 0} (xs ys : List X) → ys ≡ [] → xs ++ ys ≡ xs
 push-none [] ys e = e
 push-none (x ∷ xs) ys e = ap (λ rest. x ∷ rest) (push-none xs ys e)
+
+-- an element of what stands behind, and one of the front
+pub get-right : {X : Type 0} (xs ys : List X) (k j : ℕ) (y : X) → j ≡ length xs + k → slice_get ys k ≡ Some y → slice_get (xs ++ ys) j ≡ Some y
+get-right [] ys k j y e h = subst (λ n. slice_get ys n ≡ Some y) (sym (same j k e)) h where
+  same : (a b : ℕ) → a ≡ 0 + b → a ≡ b
+  same a b e = omega (arith, e)
+get-right (x ∷ xs) ys k zero y e h = absurd (omega (arith, e))
+get-right (x ∷ xs) ys k (suc j) y e h = get-right xs ys k j y (omega (arith, e)) h
+
+pub get-left-at : {X : Type 0} (xs ys : List X) (k : ℕ) (x : X) → slice_get xs k ≡ Some x → slice_get (xs ++ ys) k ≡ Some x
+get-left-at [] ys k x h = absurd (none_some h)
+get-left-at (y ∷ xs) ys zero x h = h
+get-left-at (y ∷ xs) ys (suc k) x h = get-left-at xs ys k x h
 
 -- entries
 pub entries-more : (history more : List Committed) → entries_of (history ++ more) ≡ entries_of history ++ entries_of more

@@ -5,7 +5,7 @@ use Rattle.cp_base.specs.declared.identifier.ClientNo.{ClientNo}
 use Rattle.cp_ops.specs.declared.entry.Entry.TheVariants as entry
 use Rattle.cp_client_rules.specs.Clients.{Asked, Did}
 use Rattle.cp_world_rules.specs.Rows.{Committed, committed_of}
-use Rattle.cp_world_rules.specs.World.{World, commit, commit_all, does, note}
+use Rattle.cp_world_rules.specs.World.{World, begins_now, commit, commit_all, does, note}
 
 -- the entries are those of the requests
 abbrev pub AllCommitted : World → Type 0
@@ -23,13 +23,13 @@ commits-requests : (asked : List Asked) (w : World) → (commit_all asked w).req
 commits-requests [] w = refl
 commits-requests (a ∷ asked) w = commits-requests asked (commit a w)
 
-asked-entries : (number : ℕ) (asked : List Asked) → map (λ (a : Asked). record { event = number; entry = entry.Call a.call a.op }) asked ≡ map committed_of (map (λ (a : Asked). record { event = number; group = a.group; call = a.call; op = a.op }) asked)
-asked-entries number [] = refl
-asked-entries number (a ∷ asked) = ap (λ rest. record { event = number; entry = entry.Call a.call a.op } ∷ rest) (asked-entries number asked)
+asked-entries : (w : World) (asked : List Asked) → map (λ (a : Asked). record { event = w.shown.number; entry = entry.Call a.call a.op }) asked ≡ map committed_of (map (begins_now w) asked)
+asked-entries w [] = refl
+asked-entries w (a ∷ asked) = ap (λ rest. record { event = w.shown.number; entry = entry.Call a.call a.op } ∷ rest) (asked-entries w asked)
 
 pub does-committed : (me : ClientNo) (d : Did) (w : World) → AllCommitted w → AllCommitted (does me d w)
 does-committed me d w h = commits-entries d.asked (note me d w)
     ∙ (ap (λ (rows : List Committed). rows ++ map (λ (a : Asked). record { event = w.shown.number; entry = entry.Call a.call a.op }) d.asked) h
-    ∙ (ap (λ (rows : List Committed). map committed_of w.requests ++ rows) (asked-entries w.shown.number d.asked)
-    ∙ (sym (map-append committed_of w.requests (map (λ (a : Asked). record { event = w.shown.number; group = a.group; call = a.call; op = a.op }) d.asked))
+    ∙ (ap (λ (rows : List Committed). map committed_of w.requests ++ rows) (asked-entries w d.asked)
+    ∙ (sym (map-append committed_of w.requests (map (begins_now w) d.asked))
     ∙ ap (map committed_of) (sym (commits-requests d.asked (note me d w))))))

@@ -32,14 +32,12 @@ use Rattle.cp_world_rules.proofs.Good.{AnsweredBy, Entered, Given as GivenTo, Go
 use Rattle.cp_world_rules.proofs.Does.{does-given, does-good}
 use Rattle.cp_world_rules.proofs.Clients.{call-ok}
 use Rattle.cp_world_rules.proofs.Answers.{answer-ok, tick-ok}
-use Rattle.cp_world_rules.proofs.Settled.{RestsAfter, rests, step-rests}
-use Rattle.cp_world_rules.proofs.Printed.{Printed, all-printed, numbers-after, printed-next, printed-none}
 
 -- The next event: its number is not below the one before.
-answered-later : (rs : List Request) (history : List Committed) (now later : ℕ) (call : Invocation) (a : Answer) → now ≤ later → AnsweredBy rs history now call a → AnsweredBy rs history later call a
-answered-later rs history now later call a l h = let e = h.entered in record {
+answered-later : (rs : List Request) (history : List Committed) (now later until : ℕ) (call : Invocation) (a : Answer) → now ≤ later → AnsweredBy rs history now until call a → AnsweredBy rs history later until call a
+answered-later rs history now later until call a l h = let e = h.entered in record {
   o = h.o;
-  entered = record { request = e.request; begun = e.begun; mine = e.mine; op_is = e.op_is; p = e.p; own = e.own; own_at = e.own_at; own_is = e.own_is; begins = e.begins; by_now = le_trans e.by_now l };
+  entered = record { request = e.request; begun = e.begun; mine = e.mine; op_is = e.op_is; p = e.p; own = e.own; own_at = e.own_at; own_is = e.own_is; begins = e.begins; by_now = le_trans e.by_now l; longer = e.longer };
   q = h.q;
   giving = h.giving;
   step = h.step;
@@ -49,16 +47,18 @@ answered-later rs history now later call a l h = let e = h.entered in record {
   order = h.order;
   commits = h.commits;
   by_then = le_trans h.by_then l;
+  in_length = h.in_length;
 }
 
 module _ (plan : Plan) where
   -- events that have numbers up to this one
-  started : (e : Event) (w : World) → w.shown.number ≤ length w.effects + 1 → w.queue ≡ [] → Good plan w → Good plan (start e w)
+  pub started : (e : Event) (w : World) → w.shown.number ≤ length w.effects → w.queue ≡ [] → Good plan w → Good plan (start e w)
   started e w l none good = let more : Extends (ledger_of w) (ledger_of (start e w)) = record { history = λ s client h. h; requests = λ r h. h; ends = λ x h. h; calls = λ c h. h; moves = λ c h. h; now = l } in record {
     state = good.state;
     ordered = good.ordered;
     orderly = good.orderly;
     own = good.own;
+    named = good.named;
     upto = good.upto;
     rounds = good.rounds;
     waiters = λ x h. let r = good.waiters x h in (r.0, later r.0 x.call r.1, r.2);
@@ -68,21 +68,23 @@ module _ (plan : Plan) where
     clients_are = good.clients_are;
     numbers = good.numbers;
     distinct = good.distinct;
+    rising = good.rising;
     entered = good.entered;
     sources = λ r h. source-on (ledger_of w) (ledger_of (start e w)) more plan r (good.sources r h);
     returns = λ r h. told-on (ledger_of w) (ledger_of (start e w)) more r.event r.client r.what (good.returns r h);
     clients = λ me. client-on (ledger_of w) (ledger_of (start e w)) more plan me (client_at w me) (good.clients me);
+    all_returned = good.all_returned;
   }
     where
-      later : (o : Op) (call : Invocation) → Entered w.requests w.history w.shown.number call o → Entered w.requests w.history (length w.effects + 1) call o
-      later o call h = record { request = h.request; begun = h.begun; mine = h.mine; op_is = h.op_is; p = h.p; own = h.own; own_at = h.own_at; own_is = h.own_is; begins = h.begins; by_now = le_trans h.by_now l }
+      later : (o : Op) (call : Invocation) → Entered w.requests w.history w.shown.number call o → Entered w.requests w.history (length w.effects) call o
+      later o call h = record { request = h.request; begun = h.begun; mine = h.mine; op_is = h.op_is; p = h.p; own = h.own; own_at = h.own_at; own_is = h.own_is; begins = h.begins; by_now = le_trans h.by_now l; longer = h.longer }
 
   -- what is ignored, and effects that are over, are not read
   ignored-good : (cause : Ignored) (w : World) → Good plan w → Good plan (ignore cause w)
-  ignored-good cause w good = record { state = good.state; ordered = good.ordered; orderly = good.orderly; own = good.own; upto = good.upto; rounds = good.rounds; waiters = good.waiters; queue = λ a h. let g = good.queue a h in record { answered = g.answered; fits = g.fits }; ends = good.ends; ended_by_now = good.ended_by_now; clients_are = good.clients_are; numbers = good.numbers; distinct = good.distinct; entered = good.entered; sources = good.sources; returns = good.returns; clients = good.clients }
+  ignored-good cause w good = record { state = good.state; ordered = good.ordered; orderly = good.orderly; own = good.own; named = good.named; upto = good.upto; rounds = good.rounds; waiters = good.waiters; queue = λ a h. let g = good.queue a h in record { answered = g.answered; fits = g.fits }; ends = good.ends; ended_by_now = good.ended_by_now; clients_are = good.clients_are; numbers = good.numbers; distinct = good.distinct; rising = good.rising; entered = good.entered; sources = good.sources; returns = good.returns; clients = good.clients; all_returned = good.all_returned }
 
   close-good : (w : World) → Good plan w → Good plan (close w)
-  close-good w good = record { state = good.state; ordered = good.ordered; orderly = good.orderly; own = good.own; upto = good.upto; rounds = good.rounds; waiters = good.waiters; queue = λ a h. let g = good.queue a h in record { answered = g.answered; fits = g.fits }; ends = good.ends; ended_by_now = good.ended_by_now; clients_are = good.clients_are; numbers = good.numbers; distinct = good.distinct; entered = good.entered; sources = good.sources; returns = good.returns; clients = good.clients }
+  close-good w good = record { state = good.state; ordered = good.ordered; orderly = good.orderly; own = good.own; named = good.named; upto = good.upto; rounds = good.rounds; waiters = good.waiters; queue = λ a h. let g = good.queue a h in record { answered = g.answered; fits = g.fits }; ends = good.ends; ended_by_now = good.ended_by_now; clients_are = good.clients_are; numbers = good.numbers; distinct = good.distinct; rising = good.rising; entered = good.entered; sources = good.sources; returns = good.returns; clients = good.clients; all_returned = good.all_returned }
 
   -- answers are handed on; those that wait stay answers of the fold
   hands-good : (queue : List (Invocation × Answer)) (w : World) → Good plan w → ((a : Invocation × Answer) → Contains queue a → GivenTo w a.0 a.1) → Good plan (hand_all plan queue w)
@@ -92,12 +94,12 @@ module _ (plan : Plan) where
       hands-good queue (hand_on plan a w) (does-good plan w (client_of a.0) (answer_client plan (replay_id (client_of a.0)) a.0 a.1 (client_at w (client_of a.0))) good ok)
       (λ b h. does-given plan w (client_of a.0) (answer_client plan (replay_id (client_of a.0)) a.0 a.1 (client_at w (client_of a.0))) good ok b (given b (at-tail a b queue h)))
 
-  handed-good : (w : World) → Good plan w → Good plan (handed plan w)
-  handed-good w good = hands-good w.queue (record w { queue = [] }) (record { state = good.state; ordered = good.ordered; orderly = good.orderly; own = good.own; upto = good.upto; rounds = good.rounds; waiters = good.waiters; queue = λ a h. absurd (no-element a h); ends = good.ends; ended_by_now = good.ended_by_now; clients_are = good.clients_are; numbers = good.numbers; distinct = good.distinct; entered = good.entered; sources = good.sources; returns = good.returns; clients = good.clients })
+  pub handed-good : (w : World) → Good plan w → Good plan (handed plan w)
+  handed-good w good = hands-good w.queue (record w { queue = [] }) (record { state = good.state; ordered = good.ordered; orderly = good.orderly; own = good.own; named = good.named; upto = good.upto; rounds = good.rounds; waiters = good.waiters; queue = λ a h. absurd (no-element a h); ends = good.ends; ended_by_now = good.ended_by_now; clients_are = good.clients_are; numbers = good.numbers; distinct = good.distinct; rising = good.rising; entered = good.entered; sources = good.sources; returns = good.returns; clients = good.clients; all_returned = good.all_returned })
       (λ a h. let g = good.queue a h in record { answered = g.answered; fits = g.fits })
 
   -- a call's row, or a clock's
-  called-good : (c : Called) (w : World) → Good plan w → Good plan (record w { calls = w.calls ++ c ∷ [] })
+  pub called-good : (c : Called) (w : World) → Good plan w → Good plan (record w { calls = w.calls ++ c ∷ [] })
   called-good c w good = let v = record w { calls = w.calls ++ c ∷ [] } in
       let more : Extends (ledger_of w) (ledger_of (record w { calls = w.calls ++ c ∷ [] })) = record { history = λ s client h. h; requests = λ r h. h; ends = λ x h. h; calls = λ x h. Contains-append_left w.calls (c ∷ []) x h; moves = λ x h. h; now = le_refl w.shown.number } in
       record {
@@ -105,6 +107,7 @@ module _ (plan : Plan) where
         ordered = good.ordered;
         orderly = good.orderly;
         own = good.own;
+        named = good.named;
         upto = good.upto;
         rounds = good.rounds;
         waiters = good.waiters;
@@ -114,19 +117,22 @@ module _ (plan : Plan) where
         clients_are = good.clients_are;
         numbers = good.numbers;
         distinct = good.distinct;
+        rising = good.rising;
         entered = good.entered;
         sources = λ r h. source-on (ledger_of w) (ledger_of (record w { calls = w.calls ++ c ∷ [] })) more plan r (good.sources r h);
         returns = λ r h. told-on (ledger_of w) (ledger_of (record w { calls = w.calls ++ c ∷ [] })) more r.event r.client r.what (good.returns r h);
         clients = λ me. client-on (ledger_of w) (ledger_of (record w { calls = w.calls ++ c ∷ [] })) more plan me (client_at w me) (good.clients me);
+        all_returned = good.all_returned;
       }
 
-  moved-good : (m : Moved) (w : World) → Good plan w → Good plan (record w { moves = w.moves ++ m ∷ [] })
+  pub moved-good : (m : Moved) (w : World) → Good plan w → Good plan (record w { moves = w.moves ++ m ∷ [] })
   moved-good m w good = let more : Extends (ledger_of w) (ledger_of (record w { moves = w.moves ++ m ∷ [] })) = record { history = λ s client h. h; requests = λ r h. h; ends = λ x h. h; calls = λ x h. h; moves = λ x h. Contains-append_left w.moves (m ∷ []) x h; now = le_refl w.shown.number } in
       record {
         state = good.state;
         ordered = good.ordered;
         orderly = good.orderly;
         own = good.own;
+        named = good.named;
         upto = good.upto;
         rounds = good.rounds;
         waiters = good.waiters;
@@ -136,10 +142,12 @@ module _ (plan : Plan) where
         clients_are = good.clients_are;
         numbers = good.numbers;
         distinct = good.distinct;
+        rising = good.rising;
         entered = good.entered;
         sources = λ r h. source-on (ledger_of w) (ledger_of (record w { moves = w.moves ++ m ∷ [] })) more plan r (good.sources r h);
         returns = λ r h. told-on (ledger_of w) (ledger_of (record w { moves = w.moves ++ m ∷ [] })) more r.event r.client r.what (good.returns r h);
         clients = λ me. client-on (ledger_of w) (ledger_of (record w { moves = w.moves ++ m ∷ [] })) more plan me (client_at w me) (good.clients me);
+        all_returned = good.all_returned;
       }
 
   call-good : (me : ClientNo) (t : ThreadNo) (o : UserOp) (now : Option Pending) (w : World) → Good plan w → Good plan (calls_if_idle plan me t o now w)
@@ -154,7 +162,7 @@ module _ (plan : Plan) where
       does-good plan (record w { moves = w.moves ++ record { event = w.shown.number; client = me; ms = ms; clock = (client_at w me).clock + ms } ∷ [] }) me (tick_client (replay_id me) ms (client_at w me)) g
       (tick-ok plan (record w { moves = w.moves ++ record { event = w.shown.number; client = me; ms = ms; clock = (client_at w me).clock + ms } ∷ [] }) me ms g (Contains-push w.moves (record { event = w.shown.number; client = me; ms = ms; clock = (client_at w me).clock + ms })))
 
-  begin-good : (e : Event) (w : World) → Good plan w → Good plan (begin plan e w)
+  pub begin-good : (e : Event) (w : World) → Good plan w → Good plan (begin plan e w)
   begin-good (event.Call me t o) w good = either (Good plan) (is_client plan me) _ _ (call-good me t o (thread_at (client_at w me) t).pending w good) (ignored-good _ w good)
   begin-good (event.ClientTick me ms) w good = either (Good plan) (is_client plan me) _ _ (either (Good plan) (nat_lt (2 ^ 62) ((client_at w me).clock + ms)) _ _ (ignored-good _ w good) (tick-good me ms w good)) (ignored-good _ w good)
   begin-good (event.Deliver k) w good = ignored-good _ w good
@@ -164,15 +172,16 @@ module _ (plan : Plan) where
   begin-good (event.Start m) w good = ignored-good _ w good
   begin-good event.Open w good = good
 
-  step-good : (e : Event) (w : World) → w.shown.number ≤ length w.effects + 1 → w.queue ≡ [] → Good plan w → Good plan (world_step plan w e)
+  pub step-good : (e : Event) (w : World) → w.shown.number ≤ length w.effects → w.queue ≡ [] → Good plan w → Good plan (world_step plan w e)
   step-good e w l none good = close-good (handed plan (handed plan (begin plan e (start e w)))) (handed-good (handed plan (begin plan e (start e w))) (handed-good (begin plan e (start e w)) (begin-good e (start e w) (started e w l none good))))
 
-none-good : (plan : Plan) → Good plan new_world
+pub none-good : (plan : Plan) → Good plan new_world
 none-good plan = record {
   state = refl;
   ordered = order-empty;
   orderly = tt;
   own = λ place call o s is. absurd (none_some is);
+  named = λ place call o s is. absurd (none_some is);
   upto = λ x client h. absurd (false_true h);
   rounds = All-nil (λ (r : LatchRow). r.round ≤ 2 ^ 62);
   waiters = λ x h. absurd (no-element x h);
@@ -182,23 +191,13 @@ none-good plan = record {
   clients_are = λ r h. absurd (no-element r h);
   numbers = λ r h. absurd (no-element r h);
   distinct = λ j k a b at_j. absurd (none_some at_j);
-  entered = λ c h. absurd (no-element c h);
+  rising = λ j k a b l at_j. absurd (none_some at_j);
+  entered = λ place c is. absurd (none_some is);
   sources = λ r h. absurd (no-element r h);
   returns = λ r h. absurd (no-element r h);
   clients = λ me. record { own = All-nil (λ (e : ℕ × OwnSession). OpenedIn [] e.1.id (replay_id me)); held = All-nil (λ (e : LockKey × HoldRecord). HoldOk (ledger_of new_world) me e.0 e.1); pending = λ t now is. absurd (none_some is) };
+  all_returned = λ q e in_q. absurd (no-element q in_q);
 }
   where
     false_true : false ≡ true → ⊥
     false_true e = cc
-
-module _ (plan : Plan) where
-  run-good : (n : ℕ) (before events : List Event) (w : World) → RestsAfter plan n w → Printed before w → w.shown.number ≤ length w.effects + 1 → Good plan w → Good plan (world_after plan w events)
-  run-good n before [] w rest printed l good = good
-  run-good n before (e ∷ events) w rest printed l good = run-good (n + 1) (before ++ e ∷ []) events (world_step plan w e) (step-rests plan n e w rest) (printed-next plan before e w printed) (numbers-after plan before e w printed) (step-good plan e w l rest.queue good)
-
-  -- what holds after these events
-  pub runs-good : (events : List Event) → Good plan (world_after plan new_world events)
-  runs-good events = run-good 0 [] events new_world (rests plan []) printed-none (omega arith) (none-good plan)
-
-  pub runs-printed : (events : List Event) → Printed events (world_after plan new_world events)
-  runs-printed events = all-printed plan [] events new_world printed-none

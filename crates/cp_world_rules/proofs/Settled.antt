@@ -55,7 +55,7 @@ use Rattle.cp_client_rules.specs.Answers.{answer_client, call_in, finished, on_p
 use Rattle.cp_client_rules.specs.Ticks.{beat, beat_each, beat_if_due, beats, end_each, end_late, is_due, is_late, own_thread, tick_client, user_threads}
 use Rattle.cp_world_rules.specs.Rows.{Committed}
 use Rattle.cp_world_rules.specs.World.{World, begin, calls_if_idle, client_at, client_of, commit, commit_all, does, hand_all, hand_on, handed, is_client, moves_if_room, moves_now, new_world, note, or_new, start, world_after, world_step}
-use Rattle.cp_world_rules.specs.Promises.{needs_session}
+use Rattle.cp_world_rules.specs.Requests.{needs_session}
 use Rattle.cp_world_rules.specs.Laws.{IsSettled, is_for_itself}
 use Rattle.cp_world_rules.proofs.Lists.{push-none}
 use Rattle.cp_world_rules.proofs.GroupLaws.{prepares}

@@ -11,7 +11,7 @@ use Rattle.cp_client_rules.specs.declared.rows.Task.{Task}
 use Rattle.cp_client_rules.specs.declared.rows.Task.TheVariants as task
 use Rattle.cp_client_rules.specs.Asking.{need_of}
 use Rattle.cp_client_rules.specs.Clients.{Client, LockKey, thread_at}
-use Rattle.cp_world_rules.specs.Promises.{needs_session}
+use Rattle.cp_world_rules.specs.Requests.{needs_session}
 use Rattle.cp_world_rules.specs.World.{World, client_at}
 
 -- how many requests a thread has open, 1 or none

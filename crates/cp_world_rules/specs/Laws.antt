@@ -14,13 +14,10 @@ use Rattle.cp_client_rules.specs.Clients.{thread_at}
 use Rattle.cp_world_rules.specs.World.{World, begin, client_at, hand_on, new_world, world_after}
 use Rattle.cp_world_rules.specs.Bounds.{AllWithin}
 use Rattle.cp_world_rules.specs.Execution.{IsAllowed, Outcomes, events_of, execution_of}
-use Rattle.cp_world_rules.specs.Headline.{Headline, IsPrompt}
+use Rattle.cp_world_rules.specs.Headline.{Headline}
 
 abbrev pub HeadlineHolds : Type 0
-HeadlineHolds = (s : Schedule) (outcomes : Outcomes) → IsAllowed s outcomes → length (events_of s.lines) ≤ 2 ^ 61 → Headline s.plan (execution_of s outcomes)
-
-abbrev pub RunsArePrompt : Type 0
-RunsArePrompt = (s : Schedule) (outcomes : Outcomes) → IsAllowed s outcomes → IsPrompt s (execution_of s outcomes)
+HeadlineHolds = (s : Schedule) (outcomes : Outcomes) → IsAllowed s outcomes → length (events_of s.lines) ≤ 2 ^ 61 → Headline s.plan s.lines (execution_of s outcomes)
 
 -- the request is for the task itself
 abbrev pub is_for_itself : Purpose → Bool

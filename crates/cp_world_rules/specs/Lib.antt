@@ -1,8 +1,16 @@
 pub mod Rows
 pub mod World
 pub mod Execution
-pub mod Promises
+pub mod Sessions
+pub mod Holding
+pub mod Requests
+pub mod Entries
+pub mod Answers
 pub mod Returns
+pub mod Telling
+pub mod Judging
+pub mod Prompt
 pub mod Headline
 pub mod Bounds
 pub mod Laws
+pub mod Wrong

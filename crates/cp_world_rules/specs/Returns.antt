@@ -1,26 +1,31 @@
 -- What a return tells, and why.
-use Rattle.std.specs.Prelude.{◌≡◌, ◌≤◌, ◌<◌, ◌+◌, ℕ, Some, Option, List, [], ◌∷◌, if◌then◌else◌, nat_le, Contains, ◌&&◌, is_none, ◌==◌}
+use Rattle.std.specs.Prelude.{◌≡◌, ◌≤◌, ◌<◌, ◌+◌, ◌⊎◌, ℕ, false, Some, Option, List, [], ◌∷◌, ◌++◌, if◌then◌else◌, nat_le, Contains, ◌&&◌, is_none, ◌==◌, slice_get}
 use Rattle.cp_base.specs.Identifiers.{replay_id}
 use Rattle.cp_base.specs.declared.identifier.ClientNo.{ClientNo}
+use Rattle.cp_base.specs.declared.identifier.GroupId.{GroupId}
 use Rattle.cp_base.specs.declared.identifier.Invocation.{Invocation}
-use Rattle.cp_base.specs.declared.identifier.ThreadNo.{ThreadNo}
 use Rattle.cp_answers.specs.declared.answer.Answer.{Answer}
 use Rattle.cp_answers.specs.declared.answer.Answer.TheVariants as answer
 use Rattle.cp_answers.specs.declared.ended_by.EndedBy.TheVariants as ended_by
 use Rattle.cp_object_ops.specs.declared.lock_op.LockOp.{LockOp}
+use Rattle.cp_ops.specs.declared.op.Op.{Op}
 use Rattle.cp_ops.specs.declared.op.Op.TheVariants as op
 use Rattle.cp_events.specs.declared.effects.Effects.{Effects}
 use Rattle.cp_events.specs.declared.effects.Ending.TheVariants as ending
-use Rattle.cp_events.specs.declared.effects.Return.{Return}
 use Rattle.cp_events.specs.declared.event.Event.{Event}
 use Rattle.cp_events.specs.declared.event.Event.TheVariants as event
-use Rattle.cp_events.specs.declared.user_op.UserOp.{UserOp}
+use Rattle.cp_events.specs.declared.plan.Plan.{Plan}
 use Rattle.cp_events.specs.declared.user_op.UserOp.TheVariants as user
-use Rattle.cp_client_rules.specs.Asking.{wish_of}
+use Rattle.cp_group_state.specs.Protected.{session_in}
+use Rattle.cp_client_rules.specs.declared.rows.HoldRecord.{HoldRecord}
+use Rattle.cp_client_rules.specs.Asking.{group_of, wish_of}
 use Rattle.cp_client_rules.specs.Calls.{patience}
-use Rattle.cp_world_rules.specs.Rows.{End, Request}
-use Rattle.cp_world_rules.specs.Execution.{Execution}
-use Rattle.cp_world_rules.specs.Promises.{TookPlace}
+use Rattle.cp_world_rules.specs.Rows.{Called, End, Request, Returned}
+use Rattle.cp_world_rules.specs.Execution.{Execution, returns_in}
+use Rattle.cp_world_rules.specs.Holding.{holds_before}
+use Rattle.cp_world_rules.specs.Sessions.{AllTaken}
+use Rattle.cp_world_rules.specs.Requests.{IsCallOfReturn, IsRequestOfCall, TookPlace}
+use Rattle.cp_world_rules.specs.Answers.{lets_go_on}
 
 -- by how much an event moves the clock of a client
 abbrev pub moved_by : ClientNo → Event → ℕ
@@ -32,54 +37,80 @@ abbrev pub clock_after : ClientNo → ℕ → List Effects → ℕ
 clock_after me number [] = 0
 clock_after me number (e ∷ effects) = (if nat_le e.number number && is_none e.ignored then moved_by me e.event else 0) + clock_after me number effects
 
--- the last request of a call that returns
-abbrev pub request_of : ClientNo → Return → Invocation
-request_of client r = record { client = replay_id client; thread = r.thread; number = r.number }
+-- the last request of the call that returns
+abbrev pub request_of : Returned → Invocation
+request_of r = record { client = replay_id r.client; thread = r.what.thread; number = r.what.number }
 
--- an answer ended the request in this event
-abbrev pub EndedBy : Execution → ℕ → Invocation → Answer → Type 0
-EndedBy x number call a = (e : End) × Contains x.ends e × (e.event ≡ number) × (e.call ≡ call) × (e.answer ≡ a)
+module _ (plan : Plan) (x : Execution) (r : Returned) where
+  -- The request that an answer ended in this event.
+  pub record EndedHere : Type 0 where
+    pub end : End
+    pub ended : Contains x.ends end
+    pub here : end.event ≡ r.event
+    pub call_is : end.call ≡ request_of r
+    pub request : Request
+    pub began : Contains x.requests request
+    pub of_call : request.call ≡ request_of r
 
--- the request is one on the lock of this name
-abbrev pub IsOnLock : Execution → Invocation → List ℕ → Type 0
-IsOnLock x call name = (r : Request) × (l : LockOp) × Contains x.requests r × (r.call ≡ call) × (r.op ≡ op.Lock name l)
+  -- An answer that doesn't let the call go on.
+  pub record ToldAnswer (a : Answer) : Type 0 where
+    pub here : EndedHere
+    pub answer_is : here.end.answer ≡ a
+    pub last : lets_go_on here.request.op a ≡ false
 
--- A request on the lock was answered that its session expired, and before that the same thread had been told a fence of
--- the lock.
-pub record LostOwnership (x : Execution) (number : ℕ) (call : Invocation) : Type 0 where
-  pub lock : List ℕ
-  pub session : ℕ
-  pub on_lock : IsOnLock x call lock
-  pub expired : EndedBy x number call (answer.SessionExpired session)
-  pub taken : End
-  pub fence : ℕ
-  pub told : Contains x.ends taken
-  pub with_fence : taken.answer ≡ answer.Fence fence
-  pub of_lock : IsOnLock x taken.call lock
-  pub same_client : taken.call.client ≡ call.client
-  pub same_thread : taken.call.thread ≡ call.thread
-  pub before : taken.event ≤ number
+  -- The last request was one on a lock, in a session, and was answered here that a session expired. By the answers before it
+  -- the thread had been told holds of the lock that it hasn't given back.
+  pub record LostOwnership : Type 0 where
+    pub here : EndedHere
+    pub expired : ℕ
+    pub says : here.end.answer ≡ answer.SessionExpired expired
+    pub lock : List ℕ
+    pub what : LockOp
+    pub on_lock : here.request.op ≡ op.Lock lock what
+    pub session : ℕ
+    pub in_session : session_in here.request.op ≡ Some session
+    pub place : ℕ
+    pub at_place : slice_get x.ends place ≡ Some here.end
+    pub held : HoldRecord
+    pub told : holds_before x.requests x.ends lock here.end place ≡ Some held
 
--- The call wished to wait for a bounded time. Since it began, the clock of its client has moved by that and the patience
--- of clients, by a tick of this event.
-pub record PassedDeadline (x : Execution) (number : ℕ) (client : ClientNo) (thread : ThreadNo) : Type 0 where
-  pub begun : ℕ
-  pub op : UserOp
-  pub called : TookPlace x begun (event.Call client thread op)
-  pub ms : ℕ
-  pub ticked : TookPlace x number (event.ClientTick client ms)
-  pub later : begun < number
-  pub wish : ℕ
-  pub bounded : wish_of op ≡ Some wish
-  pub passed : clock_after client begun x.effects + patience + wish ≤ clock_after client number x.effects
+  -- The call wished to wait for a bounded time. Since it began, the clock of its client has moved by that and the patience
+  -- of clients, by a tick of this event.
+  pub record PassedDeadline : Type 0 where
+    pub call : Called
+    pub call_is : IsCallOfReturn x r call
+    pub request : Request
+    pub began : Contains x.requests request
+    pub asked : IsRequestOfCall plan x request call
+    pub number_is : request.call.number ≡ r.what.number
+    pub ms : ℕ
+    pub ticked : TookPlace x r.event (event.ClientTick r.client ms)
+    pub wish : ℕ
+    pub bounded : wish_of call.op ≡ Some wish
+    pub passed : clock_after r.client call.event x.effects + patience + wish ≤ clock_after r.client r.event x.effects
 
--- What a return tells.
-pub data IsTold (x : Execution) (number : ℕ) (client : ClientNo) (r : Return) : Type 0 where
-  -- the answer that ended the call's last request in this event
-  answered : (a : Answer) → r.ending ≡ ending.Answered a → EndedBy x number (request_of client r) a → IsTold x number client r
-  -- that the session expired in which the thread held a lock
-  lost : r.ending ≡ ending.Answered answer.OwnershipLost → LostOwnership x number (request_of client r) → IsTold x number client r
-  -- that there was no session to close
-  at_once : (name : Option (List ℕ)) → r.ending ≡ ending.Answered answer.Ok → TookPlace x number (event.Call client r.thread (user.CloseSession name)) → IsTold x number client r
-  -- that the call's deadline is past
-  late : r.ending ≡ ending.Answered (answer.Indeterminate ended_by.Deadline) → PassedDeadline x number client r.thread → IsTold x number client r
+  -- The call was to close the client's session, and each session of the group that the client had been told before was taken
+  -- from it.
+  pub record HasNoSession : Type 0 where
+    pub name : Option (List ℕ)
+    pub asked : TookPlace x r.event (event.Call r.client r.what.thread (user.CloseSession name))
+    pub before : List End
+    pub behind : List End
+    pub parts : x.ends ≡ before ++ behind
+    pub later : (e : End) → Contains behind e → r.event ≤ e.event
+    pub taken : AllTaken x.requests (replay_id r.client) (group_of (user.CloseSession name)) before
+
+  -- What a return tells.
+  pub data IsTold : Type 0 where
+    -- the answer that ended the call's last request in this event, unless ownership was lost
+    answered : (a : Answer) → r.what.ending ≡ ending.Answered a → ToldAnswer a → (LostOwnership → ⊥) → IsTold
+    -- that the session expired in which the thread asked, while it held the lock
+    lost : r.what.ending ≡ ending.Answered answer.OwnershipLost → LostOwnership → IsTold
+    -- that there was no session to close
+    at_once : r.what.ending ≡ ending.Answered answer.Ok → HasNoSession → IsTold
+    -- that the call's deadline is past
+    late : r.what.ending ≡ ending.Answered (answer.Indeterminate ended_by.Deadline) → PassedDeadline → IsTold
+
+-- each printed return
+abbrev pub AllReturnsTell : Plan → Execution → Type 0
+AllReturnsTell plan x = (r : Returned) → Contains (returns_in x.effects) r → IsTold plan x r

@@ -8,6 +8,7 @@ use Rattle.cp_answers.specs.declared.answer.Answer.{Answer}
 use Rattle.cp_ops.specs.declared.entry.Entry.{Entry}
 use Rattle.cp_ops.specs.declared.entry.Entry.TheVariants as entry
 use Rattle.cp_ops.specs.declared.op.Op.{Op}
+use Rattle.cp_events.specs.declared.effects.Opened.{Opened}
 use Rattle.cp_events.specs.declared.effects.Return.{Return}
 use Rattle.cp_events.specs.declared.user_op.UserOp.{UserOp}
 use Rattle.cp_group_state.specs.History.{History}
@@ -17,16 +18,19 @@ pub record Committed : Type 0 where
   pub event : ℕ
   pub entry : Entry
 
--- a request that began
+-- A request that began, and one that an answer ended. The length is that of its group's history at that moment: so the order
+-- within one event is read off lengths.
 pub record Request : Type 0 where
   pub event : ℕ
+  pub length : ℕ
   pub group : GroupId
   pub call : Invocation
   pub op : Op
 
--- a request that an answer ended
 pub record End : Type 0 where
   pub event : ℕ
+  pub length : ℕ
+  pub group : GroupId
   pub call : Invocation
   pub answer : Answer
 
@@ -50,6 +54,12 @@ pub record Returned : Type 0 where
   pub event : ℕ
   pub client : ClientNo
   pub what : Return
+
+-- a session that a client opened
+pub record Opening : Type 0 where
+  pub event : ℕ
+  pub client : ClientNo
+  pub what : Opened
 
 abbrev pub entries_of : List Committed → History
 entries_of history = map (λ c. c.entry) history

@@ -11,6 +11,7 @@ use Rattle.cp_ops.specs.declared.entry.Entry.TheVariants as entry
 use Rattle.cp_events.specs.declared.effects.Effects.{Effects}
 use Rattle.cp_events.specs.declared.effects.Ignored.{Ignored}
 use Rattle.cp_events.specs.declared.effects.Ignored.TheVariants as ignored
+use Rattle.cp_events.specs.declared.effects.Return.{Return}
 use Rattle.cp_events.specs.declared.event.Event.{Event}
 use Rattle.cp_events.specs.declared.event.Event.TheVariants as event
 use Rattle.cp_events.specs.declared.plan.Plan.{Plan}
@@ -19,6 +20,7 @@ use Rattle.cp_group_state.specs.Rows.{find, put}
 use Rattle.cp_group_state.specs.GroupState.{GroupState, empty}
 use Rattle.cp_group_state.specs.Apply.{apply}
 use Rattle.cp_client_rules.specs.declared.rows.Pending.{Pending}
+use Rattle.cp_client_rules.specs.Asking.{default_group}
 use Rattle.cp_client_rules.specs.Clients.{Asked, Client, Did, new_client, thread_at}
 use Rattle.cp_client_rules.specs.Calls.{call_client}
 use Rattle.cp_client_rules.specs.Answers.{answer_client}
@@ -38,7 +40,7 @@ pub record World : Type 0 where
   pub returns : List Returned
   -- the answers that wait to be handed on, in their order
   pub queue : List (Invocation × Answer)
-  -- what the events showed that are over, and what the one under way shows so far
+  -- what the events showed that are over, event 0 first, and what the one under way shows so far
   pub effects : List Effects
   pub shown : Effects
 
@@ -46,7 +48,7 @@ abbrev pub shows_nothing : ℕ → Event → Effects
 shows_nothing number e = record { number = number; event = e; ignored = None; opened = []; returns = [] }
 
 abbrev pub new_world : World
-new_world = record { clients = []; state = empty; history = []; requests = []; ends = []; calls = []; moves = []; returns = []; queue = []; effects = []; shown = shows_nothing 0 event.Open }
+new_world = record { clients = []; state = empty; history = []; requests = []; ends = []; calls = []; moves = []; returns = []; queue = []; effects = shows_nothing 0 event.Open ∷ []; shown = shows_nothing 0 event.Open }
 
 abbrev pub or_new : Option Client → Client
 or_new None = new_client
@@ -71,13 +73,23 @@ abbrev pub commit_all : List Asked → World → World
 commit_all [] w = w
 commit_all (a ∷ asked) w = commit_all asked (commit a w)
 
--- what a client's step gives is noted
+-- the rows of a request that begins now, of one that ends now, and of a return
+abbrev pub begins_now : World → Asked → Request
+begins_now w a = record { event = w.shown.number; length = length w.history; group = default_group; call = a.call; op = a.op }
+
+abbrev pub ends_now : World → Invocation × Answer → End
+ends_now w e = record { event = w.shown.number; length = length w.history; group = default_group; call = e.0; answer = e.1 }
+
+abbrev pub returns_now : World → ClientNo → Return → Returned
+returns_now w me r = record { event = w.shown.number; client = me; what = r }
+
+-- What a client's step gives is noted. Without members all requests go to the group `default`, and all answers come from it.
 abbrev pub note : ClientNo → Did → World → World
 note me d w = record w {
   clients = put nat_cmp w.clients me.0 d.client;
-  requests = w.requests ++ map (λ a. record { event = w.shown.number; group = a.group; call = a.call; op = a.op }) d.asked;
-  ends = w.ends ++ map (λ e. record { event = w.shown.number; call = e.0; answer = e.1 }) d.ended;
-  returns = w.returns ++ map (λ r. record { event = w.shown.number; client = me; what = r }) d.returns;
+  requests = w.requests ++ map (begins_now w) d.asked;
+  ends = w.ends ++ map (ends_now w) d.ended;
+  returns = w.returns ++ map (returns_now w me) d.returns;
   shown = record w.shown {
     opened = w.shown.opened ++ map (λ o. (me, o)) d.opened;
     returns = w.shown.returns ++ map (λ r. (me, r)) d.returns;
@@ -103,7 +115,7 @@ moves_if_room me ms w = if nat_lt LAST_NUMBER ((client_at w me).clock + ms)
 
 -- the next event begins
 abbrev pub start : Event → World → World
-start e w = record w { shown = shows_nothing (length w.effects + 1) e }
+start e w = record w { shown = shows_nothing (length w.effects) e }
 
 -- the event under way is over
 abbrev pub close : World → World

@@ -2,16 +2,17 @@
 //! functions below state laws.
 #![tactic(auto)]
 
-ghost use Rattle.cp_world_rules.specs.Laws.{ClientsStayWithin, HeadlineHolds, NothingWaits, RunsArePrompt};
+ghost use Rattle.cp_world_rules.specs.Laws.{ClientsStayWithin, HeadlineHolds, NothingWaits};
+ghost use Rattle.cp_world_rules.specs.Wrong.{AreRefused};
 
 /// The promises hold of each schedule's execution.
 pub fn headline_holds()
     ensures { HeadlineHolds }
 {}
 
-/// Each event of a schedule stands in its execution, and each request is committed once, in its own event.
-pub fn runs_are_prompt()
-    ensures { RunsArePrompt }
+/// No execution with one of these faults keeps the promises: so each of them says something.
+pub fn wrong_executions_are_refused()
+    ensures { AreRefused }
 {}
 
 /// After each event no answer waits to be handed on, and no request is open that only prepares a call.
