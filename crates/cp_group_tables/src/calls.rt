@@ -108,7 +108,7 @@ impl GroupTables {
     }
 
     /// Does a call that is neither repeated nor late.
-    #[tactic(auto, using(crate::proofs::RuleCases::settled_answer, crate::proofs::RuleCases::settled_wait, crate::proofs::RuleCases::own_call))]
+    #[tactic(auto, using(crate::proofs::RuleCases::settled_answer, crate::proofs::RuleCases::settled_wait))]
     fn perform(
         &mut self,
         index: u64,

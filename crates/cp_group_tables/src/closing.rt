@@ -107,6 +107,14 @@ impl GroupTables {
         Ok(())
     }
 
+    /// The sessions that are named with the version that they have.
+    fn unchanged(&self, pairs: &[(u64, u64)]) -> Result<Vec<u64>, NoMemory>
+        ensures { IfOk result (λ found. found.items ≡ unchanged_since self.now.sessions pairs.now) }
+    {
+        let found = self.sessions.unchanged(pairs)?;
+        Ok(found)
+    }
+
     /// The sessions that are named with the version that they have are closed.
     pub(crate) fn expire_sessions(
         &mut self,
@@ -117,7 +125,7 @@ impl GroupTables {
         ensures state { OnOk result (self.new ≡ (close index (unchanged_since self.old.sessions pairs.now) self.old).state) }
         ensures told { OnOk result (out.new ≡ out.old ++ told (close index (unchanged_since self.old.sessions pairs.now) self.old).ended) }
     {
-        let sessions = self.sessions.unchanged(pairs)?;
+        let sessions = self.unchanged(pairs)?;
         self.close(index, &sessions, out)?;
         Ok(())
     }
