@@ -1,4 +1,4 @@
-use Rattle.std.proofs.Common.{◌≡◌, ◌∙◌, ◌++◌, [], refl, sym, ap}
+use Rattle.std.proofs.Common.{◌∙◌, ◌++◌, [], refl, sym, ap}
 use Rattle.cp_transcript.specs.Transcripts.{heading}
 use Rattle.cp_transcript.proofs.Opening.{opening_line}
 use Rattle.cp_transcript.proofs.transcript.TranscriptWriter.new.Goals as goal
