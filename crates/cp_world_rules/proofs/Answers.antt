@@ -48,7 +48,6 @@ use Rattle.cp_client_rules.specs.Answers.{answer_client, call_in, finished, on_p
 use Rattle.cp_client_rules.specs.Ticks.{beat, beat_each, beat_if_due, beats, end_each, end_late, is_due, is_late, is_past, own_thread, tick_client, user_threads}
 use Rattle.cp_world_rules.specs.Rows.{End, Moved, Request}
 use Rattle.cp_world_rules.specs.World.{World, client_at, client_of, ends_now, note}
-use Rattle.cp_world_rules.specs.Requests.{needs_session}
 use Rattle.cp_world_rules.specs.Answers.{lets_go_on}
 use Rattle.cp_world_rules.proofs.Desks.{is_beat}
 use Rattle.cp_world_rules.proofs.GroupLaws.{prepares}

@@ -1,12 +1,10 @@
 -- A call asks or returns in the event in which it begins.
-use Rattle.std.proofs.Common.{◌≡◌, ℕ, ◌+◌, ◌^◌, ◌⊎◌, inl, inr, List, [], ◌∷◌, ◌++◌, Some, None, Option, refl, sym, subst, ap, ◌∙◌, length, map}
+use Rattle.std.proofs.Common.{◌≡◌, ℕ, ◌+◌, ◌^◌, ◌⊎◌, inl, inr, List, [], ◌∷◌, ◌++◌, Some, None, Option, refl, sym, subst, ap, ◌∙◌, map}
 use Rattle.std.specs.Prelude.{Contains, nat_lt}
 use Rattle.std.proofs.lemmas.List.Elements.{Contains-append_left, Contains-append_right, Contains-push_cases}
 use Rattle.cp_base.specs.Identifiers.{replay_id}
 use Rattle.cp_base.specs.declared.identifier.ClientNo.{ClientNo}
 use Rattle.cp_base.specs.declared.identifier.ThreadNo.{ThreadNo}
-use Rattle.cp_answers.specs.declared.answer.Answer.TheVariants as answer
-use Rattle.cp_events.specs.declared.effects.Ending.TheVariants as ending
 use Rattle.cp_events.specs.declared.effects.Return.{Return}
 use Rattle.cp_events.specs.declared.event.Event.{Event}
 use Rattle.cp_events.specs.declared.event.Event.TheVariants as event
@@ -16,11 +14,11 @@ use Rattle.cp_group_state.proofs.Walk.{either}
 use Rattle.cp_group_causes.proofs.Lists.{at-head, map-in}
 use Rattle.cp_client_rules.specs.declared.rows.Pending.{Pending}
 use Rattle.cp_client_rules.specs.Asking.{Need, Nothing, HoldingSession, ItsSession, SessionToClose, Round, group_of, need_of, wish_of}
-use Rattle.cp_client_rules.specs.Calls.{Call, by_need, call_client, closing, deadline_of, go_on, holding_session, in_session}
+use Rattle.cp_client_rules.specs.Calls.{Call, by_need, call_client, closing, deadline_of, holding_session, in_session}
 use Rattle.cp_client_rules.specs.Clients.{Asked, Client, Did, session_in_group, thread_at}
 use Rattle.cp_client_rules.specs.Ticks.{tick_client}
 use Rattle.cp_world_rules.specs.Rows.{Called, Request, Returned}
-use Rattle.cp_world_rules.specs.World.{World, begin, begins_now, calls_if_idle, client_at, handed, commit_all, ignore, is_client, moves_if_room, note, returns_now, start, world_after, world_step}
+use Rattle.cp_world_rules.specs.World.{World, begin, begins_now, calls_if_idle, client_at, handed, commit_all, is_client, moves_if_room, note, returns_now, start, world_after, world_step}
 use Rattle.cp_world_rules.proofs.Walking.{IsHanded, commits-kept, does-kept, handed-kept}
 
 abbrev pub BeginsIn : List Request → List Returned → Called → Type 0

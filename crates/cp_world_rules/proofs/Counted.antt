@@ -1,19 +1,18 @@
 -- A countdown names the round that its call was told, in the same event.
 use Rattle.std.proofs.Common.{◌≡◌, ℕ, ◌+◌, ◌⊎◌, inl, inr, Bool, true, false, List, [], ◌∷◌, ◌++◌, Some, None, Option, refl, sym, subst, ap, ◌∙◌, map}
-use Rattle.std.specs.Prelude.{Contains, slice_get, ◌==◌, unsigned_abs, ℤ}
+use Rattle.std.specs.Prelude.{Contains, slice_get, ◌==◌, ℤ}
 use Rattle.std.proofs.lemmas.List.Elements.{Contains-append_cases, Contains-append_left, Contains-append_right}
 use Rattle.cp_base.specs.Identifiers.{replay_id}
 use Rattle.cp_base.specs.declared.identifier.ClientId.{ClientId}
 use Rattle.cp_base.specs.declared.identifier.ClientNo.{ClientNo}
 use Rattle.cp_base.specs.declared.identifier.Invocation.{Invocation}
 use Rattle.cp_base.specs.declared.identifier.ThreadNo.{ThreadNo}
-use Rattle.cp_base.proofs.Tests.{no_false, no_true, none_some, same_number, same_some}
+use Rattle.cp_base.proofs.Tests.{no_true, same_number, same_some}
 use Rattle.cp_answers.specs.declared.answer.Answer.{Answer}
 use Rattle.cp_answers.specs.declared.answer.Answer.TheVariants as answer
 use Rattle.cp_object_ops.specs.declared.latch_op.LatchOp.TheVariants as latch
 use Rattle.cp_ops.specs.declared.op.Op.{Op}
 use Rattle.cp_ops.specs.declared.op.Op.TheVariants as op
-use Rattle.cp_ops.specs.declared.session_op.SessionOp.TheVariants as session
 use Rattle.cp_events.specs.declared.event.Event.{Event}
 use Rattle.cp_events.specs.declared.object.Object.{Object}
 use Rattle.cp_events.specs.declared.plan.Plan.{Plan}
@@ -21,7 +20,7 @@ use Rattle.cp_events.specs.declared.user_op.LatchCall.TheVariants as latch_call
 use Rattle.cp_events.specs.declared.user_op.UserOp.{UserOp}
 use Rattle.cp_events.specs.declared.user_op.UserOp.TheVariants as user
 use Rattle.cp_group_state.proofs.Walk.{cases}
-use Rattle.cp_group_causes.proofs.Lists.{at-head, map-in, mapped, no-element, one-is}
+use Rattle.cp_group_causes.proofs.Lists.{at-head, mapped, no-element, one-is}
 use Rattle.cp_client_rules.specs.declared.rows.OwnSession.{OwnSession}
 use Rattle.cp_client_rules.specs.declared.rows.Pending.{Pending}
 use Rattle.cp_client_rules.specs.declared.rows.Purpose.{Purpose}
@@ -30,14 +29,14 @@ use Rattle.cp_client_rules.specs.declared.rows.Task.{Task}
 use Rattle.cp_client_rules.specs.declared.rows.Task.TheVariants as task
 use Rattle.cp_client_rules.specs.Answers.{answer_client, call_in, on_pending, on_task, prepared}
 use Rattle.cp_client_rules.specs.Asking.{Need, Nothing, HoldingSession, ItsSession, SessionToClose, Round, group_of, need_of, op_of, wish_of}
-use Rattle.cp_client_rules.specs.Calls.{Call, by_need, call_client, closing, deadline_of, go_on, holding_session, in_session}
+use Rattle.cp_client_rules.specs.Calls.{Call, by_need, call_client, closing, deadline_of, holding_session, in_session}
 use Rattle.cp_client_rules.specs.Clients.{Asked, Client, Did, Sessions, nothing, session_in_group, thread_at}
 use Rattle.cp_client_rules.specs.Sessions.{with_session}
 use Rattle.cp_client_rules.specs.Ticks.{beat_each, beat_if_due, end_each, end_late, is_due, is_late, tick_client, user_threads}
 use Rattle.cp_world_rules.specs.Rows.{End, Request}
-use Rattle.cp_world_rules.specs.Requests.{TellsRound, needs_session}
+use Rattle.cp_world_rules.specs.Requests.{TellsRound}
 use Rattle.cp_world_rules.specs.World.{World, begins_now, client_at, client_of, ends_now, new_world, note, world_after}
-use Rattle.cp_world_rules.proofs.Lists.{get-some, push-none}
+use Rattle.cp_world_rules.proofs.Lists.{get-some}
 use Rattle.cp_world_rules.proofs.Ledgers.{Knows, PurposeOk, ledger_of}
 use Rattle.cp_world_rules.proofs.Good.{Given as GivenTo, Good}
 use Rattle.cp_world_rules.proofs.Served.{IsServed, all-served}

@@ -1,9 +1,9 @@
 -- What threads work on, in every run.
-use Rattle.std.proofs.Common.{◌≡◌, ℕ, ◌+◌, ◌^◌, ◌<◌, ◌≤◌, ◌⊎◌, inl, inr, Bool, true, false, List, [], ◌∷◌, ◌++◌, Some, None, Option, refl, sym, subst, ap, ◌∙◌, arith, length, le_refl, le_trans}
-use Rattle.std.specs.Prelude.{Contains, nat_lt, slice_get}
+use Rattle.std.proofs.Common.{◌≡◌, ℕ, ◌+◌, ◌^◌, ◌≤◌, ◌⊎◌, inl, inr, Bool, true, false, List, [], ◌∷◌, ◌++◌, Some, None, Option, refl, sym, subst, ap, ◌∙◌, arith, length}
+use Rattle.std.specs.Prelude.{Contains, nat_lt}
 use Rattle.std.specs.Ordering.{is_eq, nat_cmp}
 use Rattle.std.specs.BTreeMap.{is_at}
-use Rattle.std.proofs.lemmas.List.Elements.{Contains-append_left, Contains-push, Contains-push_cases}
+use Rattle.std.proofs.lemmas.List.Elements.{Contains-push, Contains-push_cases}
 use Rattle.cp_base.specs.Identifiers.{replay_id}
 use Rattle.cp_base.specs.declared.identifier.ClientNo.{ClientNo}
 use Rattle.cp_base.specs.declared.identifier.Invocation.{Invocation}
@@ -28,13 +28,13 @@ use Rattle.cp_client_rules.specs.Calls.{Call, call_client, deadline_of, go_on}
 use Rattle.cp_client_rules.specs.Clients.{Asked, Client, Did, thread_at}
 use Rattle.cp_client_rules.specs.Answers.{answer_client}
 use Rattle.cp_client_rules.specs.Ticks.{tick_client}
-use Rattle.cp_world_rules.specs.Rows.{Called, End, Moved, Request, Returned}
-use Rattle.cp_world_rules.specs.World.{World, begin, calls_if_idle, client_at, client_of, close, commit, commit_all, does, hand_all, hand_on, handed, ignore, is_client, moves_if_room, moves_now, new_world, note, or_new, start, world_after, world_step}
+use Rattle.cp_world_rules.specs.Rows.{Called, Moved, Request}
+use Rattle.cp_world_rules.specs.World.{World, begin, calls_if_idle, client_at, client_of, commit, commit_all, does, hand_all, hand_on, handed, ignore, is_client, moves_now, new_world, note, or_new, start, world_after, world_step}
 use Rattle.cp_world_rules.proofs.Ledgers.{Ledger, PurposeOk, ledger_of}
 use Rattle.cp_world_rules.proofs.Good.{Given as GivenTo, Good}
-use Rattle.cp_world_rules.proofs.Does.{DidOk, does-given, does-good}
+use Rattle.cp_world_rules.proofs.Does.{does-given, does-good}
 use Rattle.cp_world_rules.proofs.Answers.{answer-ok}
-use Rattle.cp_world_rules.proofs.Desks.{Book, BookOk, IsNow, OverIn, Owns, ThreadOk, Works, book-call, book-later, book-move, thread-call, thread-move, with_call, with_move}
+use Rattle.cp_world_rules.proofs.Desks.{BookOk, IsNow, OverIn, ThreadOk, Works, book-call, book-later, book-move, thread-call, thread-move, with_move}
 use Rattle.cp_world_rules.proofs.Threads.{But, Mid, adds, book_of}
 use Rattle.cp_world_rules.proofs.Working.{Needs, answer-goes, call-goes, go-ends, tick-goes}
 use Rattle.cp_world_rules.proofs.Walking.{IsBetween, between-after}

@@ -1,7 +1,7 @@
 -- What threads work on: of the calls, requests, ends and returns so far, those of each thread.
-use Rattle.std.proofs.Common.{◌≡◌, ℕ, ◌+◌, ◌<◌, ◌≤◌, ◌⊎◌, inl, inr, Bool, true, false, not, List, [], ◌∷◌, ◌++◌, Some, None, Option, refl, sym, subst, ap, ◌∙◌, arith, length, map, le_refl, le_trans}
+use Rattle.std.proofs.Common.{◌≡◌, ℕ, ◌+◌, ◌<◌, ◌≤◌, ◌⊎◌, inl, inr, Bool, true, false, List, [], ◌∷◌, ◌++◌, Some, None, Option, sym, subst, ap, ◌∙◌, arith, length, le_trans}
 use Rattle.std.specs.Prelude.{Contains, slice_get}
-use Rattle.std.proofs.lemmas.List.Elements.{Contains-append_left, Contains-push, Contains-push_cases}
+use Rattle.std.proofs.lemmas.List.Elements.{Contains-append_left, Contains-push_cases}
 use Rattle.cp_base.specs.Identifiers.{replay_id}
 use Rattle.cp_base.specs.declared.identifier.ClientId.{ClientId}
 use Rattle.cp_base.specs.declared.identifier.ClientNo.{ClientNo}
@@ -13,7 +13,7 @@ use Rattle.cp_ops.specs.declared.op.Op.TheVariants as op
 use Rattle.cp_ops.specs.declared.session_op.SessionOp.TheVariants as session
 use Rattle.cp_events.specs.declared.effects.Ending.TheVariants as ending
 use Rattle.cp_events.specs.declared.plan.Plan.{Plan}
-use Rattle.cp_group_causes.proofs.Lists.{get-contains, get-in}
+use Rattle.cp_group_causes.proofs.Lists.{get-contains}
 use Rattle.cp_client_rules.specs.declared.rows.Pending.{Pending}
 use Rattle.cp_client_rules.specs.declared.rows.Task.{Task}
 use Rattle.cp_client_rules.specs.declared.rows.Task.TheVariants as task

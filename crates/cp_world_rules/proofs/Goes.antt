@@ -1,5 +1,5 @@
 -- An answer that lets its call go on is followed by the request for the call itself.
-use Rattle.std.proofs.Common.{◌≡◌, ℕ, ◌+◌, ◌<◌, ◌≤◌, ◌⊎◌, inl, inr, Bool, true, false, List, [], ◌∷◌, ◌++◌, Some, None, Option, refl, sym, subst, ap, ◌∙◌, arith, length, map, le_refl, le_trans}
+use Rattle.std.proofs.Common.{◌≡◌, ℕ, ◌+◌, ◌<◌, ◌≤◌, ◌⊎◌, inl, inr, Bool, true, false, List, [], ◌∷◌, ◌++◌, Some, None, Option, refl, sym, subst, ap, ◌∙◌, arith, map, le_trans}
 use Rattle.std.specs.Prelude.{Contains, slice_get, ◌==◌, unsigned_abs}
 use Rattle.std.specs.Ordering.{nat_cmp}
 use Rattle.std.proofs.lemmas.List.Elements.{Contains-append_cases, Contains-append_left, Contains-append_right}
@@ -19,7 +19,7 @@ use Rattle.cp_ops.specs.declared.session_op.SessionOp.TheVariants as session
 use Rattle.cp_events.specs.declared.event.Event.{Event}
 use Rattle.cp_events.specs.declared.plan.Plan.{Plan}
 use Rattle.cp_events.specs.declared.user_op.UserOp.{UserOp}
-use Rattle.cp_group_state.specs.Rows.{find, put}
+use Rattle.cp_group_state.specs.Rows.{find}
 use Rattle.cp_group_state.proofs.Keyed.{find-put_same, number_key}
 use Rattle.cp_group_state.proofs.Walk.{cases}
 use Rattle.cp_group_causes.proofs.Lists.{at-head, map-in, mapped, no-element, one-is}
@@ -32,11 +32,11 @@ use Rattle.cp_client_rules.specs.declared.rows.Task.{Task}
 use Rattle.cp_client_rules.specs.declared.rows.Task.TheVariants as task
 use Rattle.cp_client_rules.specs.Answers.{answer_client, call_in, on_pending, on_task, prepared}
 use Rattle.cp_client_rules.specs.Asking.{Need, Nothing, HoldingSession, ItsSession, SessionToClose, Round, need_of, op_of}
-use Rattle.cp_client_rules.specs.Calls.{Call, by_need, call_client, go_on, holding_session, in_session, or_own}
+use Rattle.cp_client_rules.specs.Calls.{Call, by_need, call_client, holding_session, in_session, or_own}
 use Rattle.cp_client_rules.specs.Clients.{Asked, Client, Did, Sessions, id_of, next_request, nothing, session_in_group, thread_at}
 use Rattle.cp_client_rules.specs.Sessions.{has_session, is_session, with_session}
 use Rattle.cp_client_rules.specs.Ticks.{beat_each, beat_if_due, end_each, end_late, is_due, is_late, tick_client, user_threads}
-use Rattle.cp_world_rules.specs.Rows.{Called, End, Moved, Request}
+use Rattle.cp_world_rules.specs.Rows.{Called, End, Request}
 use Rattle.cp_world_rules.specs.Answers.{lets_go_on}
 use Rattle.cp_world_rules.specs.Requests.{IsForItself, needs_session}
 use Rattle.cp_world_rules.specs.Laws.{is_for_itself}

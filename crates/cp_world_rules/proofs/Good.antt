@@ -2,7 +2,7 @@
 use Rattle.std.proofs.Common.{◌≡◌, ℕ, ◌+◌, ◌<◌, ◌≤◌, ◌⊎◌, inl, inr, true, false, List, [], ◌∷◌, ◌++◌, Some, None, Option, refl, sym, subst, ap, ◌∙◌, arith, length, le_refl, le_trans, zero, suc}
 use Rattle.std.specs.Prelude.{Contains, slice_get, unsigned_abs}
 use Rattle.std.proofs.lemmas.List.{length_push}
-use Rattle.std.proofs.lemmas.List.Elements.{Contains-append_cases, Contains-push_cases}
+use Rattle.std.proofs.lemmas.List.Elements.{Contains-append_cases}
 use Rattle.cp_base.specs.Identifiers.{replay_id}
 use Rattle.cp_base.specs.declared.identifier.ClientId.{ClientId}
 use Rattle.cp_base.specs.declared.identifier.ClientNo.{ClientNo}
@@ -21,7 +21,7 @@ use Rattle.cp_group_state.specs.declared.rows.Waiter.{Waiter}
 use Rattle.cp_group_state.specs.Sessions.{is_open_for}
 use Rattle.cp_group_state.specs.GroupState.{GroupState, empty}
 use Rattle.cp_group_state.specs.Apply.{Applied, apply, run}
-use Rattle.cp_group_state.specs.History.{IsBelow, IsOrderlyAt, IsOrderlyFrom, IsReached, sessions_in, sessions_in_call, sessions_in_op}
+use Rattle.cp_group_state.specs.History.{IsBelow, IsOrderlyAt, IsOrderlyFrom, IsReached, sessions_in_call, sessions_in_op}
 use Rattle.cp_group_state.specs.Protected.{down_in, session_in}
 use Rattle.cp_group_state.specs.Invariants.{IsOrdered}
 use Rattle.cp_group_state.proofs.Ordered.{order-apply}

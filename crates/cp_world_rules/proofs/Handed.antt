@@ -1,5 +1,5 @@
 -- Each answer is handed on in the event that gave it, unless its request was over.
-use Rattle.std.proofs.Common.{◌≡◌, ℕ, ◌+◌, ◌^◌, ◌<◌, ◌≤◌, ◌⊎◌, inl, inr, Bool, true, false, List, [], ◌∷◌, ◌++◌, Some, None, Option, refl, sym, subst, ap, ◌∙◌, arith, length, map, zero, suc, le_refl, le_trans}
+use Rattle.std.proofs.Common.{◌≡◌, ℕ, ◌+◌, ◌^◌, ◌<◌, ◌≤◌, ◌⊎◌, inl, inr, false, List, [], ◌∷◌, ◌++◌, Some, None, Option, refl, sym, subst, ap, ◌∙◌, arith, length, map, suc}
 use Rattle.std.specs.Prelude.{Contains, slice_get, nat_lt, ◌==◌}
 use Rattle.std.proofs.lemmas.Bool.Decides.{nat_tests}
 use Rattle.std.proofs.lemmas.List.Elements.{Contains-append_cases, Contains-append_left, Contains-append_right}
@@ -9,17 +9,16 @@ use Rattle.cp_base.specs.declared.identifier.Invocation.{Invocation}
 use Rattle.cp_base.specs.declared.identifier.ThreadNo.{ThreadNo}
 use Rattle.cp_base.proofs.Tests.{none_some}
 use Rattle.cp_answers.specs.declared.answer.Answer.{Answer}
-use Rattle.cp_ops.specs.declared.entry.Entry.{Entry}
 use Rattle.cp_ops.specs.declared.entry.Entry.TheVariants as entry
 use Rattle.cp_events.specs.declared.event.Event.{Event}
 use Rattle.cp_events.specs.declared.event.Event.TheVariants as event
 use Rattle.cp_events.specs.declared.plan.Plan.{Plan}
 use Rattle.cp_events.specs.declared.user_op.UserOp.{UserOp}
-use Rattle.cp_group_state.specs.GroupState.{GroupState, empty}
+use Rattle.cp_group_state.specs.GroupState.{empty}
 use Rattle.cp_group_state.specs.Apply.{Applied, apply, run}
-use Rattle.cp_group_state.specs.History.{Given, answers_of, given_from}
+use Rattle.cp_group_state.specs.History.{Given, given_from}
 use Rattle.cp_group_state.proofs.Walk.{cases, either}
-use Rattle.cp_group_causes.proofs.Lists.{at-head, at-tail, get-in, mapped, no-element, one-only}
+use Rattle.cp_group_causes.proofs.Lists.{at-head, at-tail, mapped, no-element, one-only}
 use Rattle.cp_client_rules.specs.declared.rows.Pending.{Pending}
 use Rattle.cp_client_rules.specs.Calls.{call_client}
 use Rattle.cp_client_rules.specs.Clients.{Asked, Client, Did, nothing, thread_at}
@@ -34,9 +33,7 @@ use Rattle.cp_world_rules.proofs.Does.{does-given, does-good}
 use Rattle.cp_world_rules.proofs.Answers.{answer-ok}
 use Rattle.cp_world_rules.proofs.Runs.{begin-good, handed-good, started}
 use Rattle.cp_world_rules.proofs.Settled.{RestsAfter, rests, step-rests}
-use Rattle.cp_world_rules.proofs.Walking.{IsBetween}
-use Rattle.cp_world_rules.proofs.Desks.{BookOk, OverIn, Owns, ThreadOk, has_gone_on, was_ended, was_returned}
-use Rattle.cp_world_rules.proofs.Threads.{book_of}
+use Rattle.cp_world_rules.proofs.Desks.{OverIn, Owns, has_gone_on, was_ended, was_returned}
 use Rattle.cp_world_rules.proofs.Desked.{Desked, Sound, begin-desked, emptied-good, hand-desked, handed-desked, none-sound, of-client, step-sound}
 
 -- over by the end of an event

@@ -1,13 +1,11 @@
 -- Requests begin, and end, in events that took place.
-use Rattle.std.proofs.Common.{◌≡◌, ℕ, ◌+◌, ◌⊎◌, inl, inr, List, [], ◌∷◌, ◌++◌, Some, None, Option, refl, sym, subst, ap, ◌∙◌, map}
+use Rattle.std.proofs.Common.{◌≡◌, ℕ, ◌+◌, ◌⊎◌, inl, inr, List, [], ◌∷◌, ◌++◌, Some, None, Option, refl, sym, subst, ap, map}
 use Rattle.std.specs.Prelude.{Contains, nat_lt}
 use Rattle.std.proofs.lemmas.List.Elements.{Contains-append_cases, Contains-append_left, Contains-push}
 use Rattle.cp_base.specs.declared.limits.TheConstants.{LAST_NUMBER}
 use Rattle.cp_base.specs.Identifiers.{replay_id}
 use Rattle.cp_base.specs.declared.identifier.ClientNo.{ClientNo}
-use Rattle.cp_base.specs.declared.identifier.Invocation.{Invocation}
 use Rattle.cp_base.specs.declared.identifier.ThreadNo.{ThreadNo}
-use Rattle.cp_answers.specs.declared.answer.Answer.{Answer}
 use Rattle.cp_events.specs.declared.effects.Effects.{Effects}
 use Rattle.cp_events.specs.declared.event.Event.{Event}
 use Rattle.cp_events.specs.declared.event.Event.TheVariants as event
@@ -18,9 +16,9 @@ use Rattle.cp_group_causes.proofs.Lists.{mapped, no-element}
 use Rattle.cp_client_rules.specs.declared.rows.Pending.{Pending}
 use Rattle.cp_client_rules.specs.Calls.{call_client}
 use Rattle.cp_client_rules.specs.Ticks.{tick_client}
-use Rattle.cp_client_rules.specs.Clients.{Asked, Did, thread_at}
-use Rattle.cp_world_rules.specs.Rows.{Called, End, Moved, Request}
-use Rattle.cp_world_rules.specs.World.{World, begin, begins_now, calls_if_idle, client_at, close, ends_now, hand_all, handed, is_client, moves_if_room, new_world, note, start, world_after, world_step}
+use Rattle.cp_client_rules.specs.Clients.{Did, thread_at}
+use Rattle.cp_world_rules.specs.Rows.{End, Request}
+use Rattle.cp_world_rules.specs.World.{World, begin, begins_now, calls_if_idle, client_at, close, ends_now, hand_all, handed, is_client, moves_if_room, new_world, start, world_after, world_step}
 use Rattle.cp_world_rules.proofs.Walking.{IsHanded, does-kept, handed-kept}
 use Rattle.cp_world_rules.proofs.Settled.{RestsAfter, rests, step-rests}
 

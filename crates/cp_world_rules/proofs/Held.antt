@@ -1,6 +1,6 @@
 -- What clients note of the locks that their threads hold is what the threads were told.
-use Rattle.std.proofs.Common.{◌≡◌, ℕ, ◌+◌, ◌-◌, ◌<◌, ◌≤◌, ◌⊎◌, inl, inr, Bool, true, false, ◌&&◌, List, [], ◌∷◌, ◌++◌, Some, None, Option, refl, sym, subst, ap, ◌∙◌, arith, length, map, le_refl, le_trans, if◌then◌else◌, take, zero, suc}
-use Rattle.std.specs.Prelude.{Contains, slice_get, nat_lt, ◌==◌, bytes_eq, unsigned_abs}
+use Rattle.std.proofs.Common.{◌≡◌, ℕ, ◌+◌, ◌-◌, ◌⊎◌, inl, inr, Bool, true, false, ◌&&◌, List, [], ◌∷◌, ◌++◌, Some, None, Option, refl, sym, subst, ap, ◌∙◌, length, map, if◌then◌else◌, take, zero, suc}
+use Rattle.std.specs.Prelude.{Contains, slice_get, nat_lt, ◌==◌, bytes_eq}
 use Rattle.std.specs.Cmp.{IsTotalOrder}
 use Rattle.std.specs.List.Sorted.{IsStrictlySortedBy}
 use Rattle.std.specs.Ordering.{is_eq, nat_cmp}
@@ -21,7 +21,6 @@ use Rattle.cp_object_ops.specs.declared.lock_op.LockOp.{LockOp}
 use Rattle.cp_object_ops.specs.declared.lock_op.LockOp.TheVariants as lock
 use Rattle.cp_op_values.specs.declared.kind.Kind.{Kind}
 use Rattle.cp_op_values.specs.declared.kind.Kind.TheVariants as kind
-use Rattle.cp_op_values.specs.declared.wish.Wish.{Wish}
 use Rattle.cp_op_values.specs.declared.wish.Wish.TheVariants as wish
 use Rattle.cp_ops.specs.declared.op.Op.{Op}
 use Rattle.cp_ops.specs.declared.op.Op.TheVariants as op

@@ -1,9 +1,9 @@
 -- An event is ignored exactly where it has a cause.
-use Rattle.std.proofs.Common.{◌≡◌, ℕ, ◌+◌, ◌^◌, ◌<◌, ◌≤◌, ◌⊎◌, inl, inr, Bool, true, false, ◌&&◌, List, [], ◌∷◌, ◌++◌, Some, None, Option, refl, sym, subst, ap, ◌∙◌, arith, length, map, zero, suc, le_refl, le_trans, append_assoc, if◌then◌else◌}
+use Rattle.std.proofs.Common.{◌≡◌, ℕ, ◌+◌, ◌<◌, ◌≤◌, ◌⊎◌, inl, inr, Bool, true, false, ◌&&◌, List, [], ◌∷◌, ◌++◌, Some, None, Option, refl, sym, subst, ap, ◌∙◌, arith, length, map, zero, suc, le_refl, append_assoc, if◌then◌else◌}
 use Rattle.std.specs.Prelude.{Contains, slice_get, nat_le, nat_lt, is_none}
 use Rattle.std.proofs.lemmas.Bool.Decides.{nat_tests}
-use Rattle.std.proofs.lemmas.List.{length_push, length-append}
-use Rattle.std.proofs.lemmas.List.Elements.{Contains-append_cases, Contains-append_left, Contains-append_right, Contains-push, Contains-push_cases}
+use Rattle.std.proofs.lemmas.List.{length_push}
+use Rattle.std.proofs.lemmas.List.Elements.{Contains-append_cases, Contains-append_left}
 use Rattle.cp_base.specs.declared.limits.TheConstants.{LAST_NUMBER}
 use Rattle.cp_base.specs.Identifiers.{replay_id}
 use Rattle.cp_base.specs.declared.identifier.ClientNo.{ClientNo}
@@ -21,20 +21,20 @@ use Rattle.cp_group_state.proofs.Walk.{cases}
 use Rattle.cp_group_causes.proofs.Lists.{get-in, get-last, get-left, mapped}
 use Rattle.cp_client_rules.specs.declared.rows.Pending.{Pending}
 use Rattle.cp_client_rules.specs.Calls.{call_client}
-use Rattle.cp_client_rules.specs.Clients.{Asked, Did, thread_at}
-use Rattle.cp_client_rules.specs.Ticks.{own_thread, tick_client}
-use Rattle.cp_world_rules.specs.Rows.{Called, Committed, End, Moved, Request, Returned}
+use Rattle.cp_client_rules.specs.Clients.{Did, thread_at}
+use Rattle.cp_client_rules.specs.Ticks.{tick_client}
+use Rattle.cp_world_rules.specs.Rows.{End, Request, Returned}
 use Rattle.cp_world_rules.specs.World.{World, begin, begins_now, calls_if_idle, client_at, close, commit, ends_now, handed, ignore, is_client, moves_if_room, new_world, note, returns_now, shows_nothing, start, world_after, world_step}
 use Rattle.cp_world_rules.specs.Execution.{Execution, executed, returns_in}
-use Rattle.cp_world_rules.specs.Returns.{clock_after, moved_by, request_of}
-use Rattle.cp_world_rules.specs.Judging.{CallIsIgnored, IsBusy, IsClockBefore, IsJudged, IsOver, TickIsIgnored, ended, returned, went_on}
+use Rattle.cp_world_rules.specs.Returns.{clock_after, moved_by}
+use Rattle.cp_world_rules.specs.Judging.{CallIsIgnored, IsBusy, IsJudged, IsOver, TickIsIgnored, ended, returned, went_on}
 use Rattle.cp_world_rules.specs.Prompt.{IsIgnoredSo}
-use Rattle.cp_world_rules.proofs.Lists.{get-append, get-right, get-some, one-there, push-none}
-use Rattle.cp_world_rules.proofs.Walking.{IsBetween, IsHanded, IsKept, IsKeptBetween, between-after, does-kept, event-kept, from-kept, handed-kept}
+use Rattle.cp_world_rules.proofs.Lists.{get-right, push-none}
+use Rattle.cp_world_rules.proofs.Walking.{IsHanded, IsKeptBetween, between-after, does-kept, event-kept, from-kept, handed-kept}
 use Rattle.cp_world_rules.proofs.Printed.{Printed, clock_of, printed-next}
 use Rattle.cp_world_rules.proofs.Settled.{RestsAfter, step-rests}
-use Rattle.cp_world_rules.proofs.Desks.{BookOk, IsOpen, OverIn, Owns, ThreadOk, has_gone_on, of_thread, was_ended, was_returned}
-use Rattle.cp_world_rules.proofs.Desked.{Desked, Sound, step-sound}
+use Rattle.cp_world_rules.proofs.Desks.{IsOpen, OverIn, Owns, has_gone_on, was_ended, was_returned}
+use Rattle.cp_world_rules.proofs.Desked.{Sound, step-sound}
 
 -- ---- what an event is judged by
 

@@ -1,5 +1,5 @@
 -- The promises hold of what is known after all events.
-use Rattle.std.proofs.Common.{◌≡◌, ℕ, ◌+◌, ◌*◌, ◌^◌, ◌<◌, ◌≤◌, ◌⊎◌, inl, inr, Bool, true, false, List, [], ◌∷◌, ◌++◌, Some, None, Option, refl, sym, subst, ap, ◌∙◌, arith, length, map, zero, suc, le_refl, le_trans, if◌then◌else◌}
+use Rattle.std.proofs.Common.{◌≡◌, ℕ, ◌+◌, ◌*◌, ◌^◌, ◌<◌, ◌≤◌, ◌⊎◌, inl, inr, true, false, List, [], ◌∷◌, Some, None, Option, refl, sym, subst, ap, ◌∙◌, arith, length, map, zero, suc, le_refl, le_trans}
 use Rattle.std.specs.Prelude.{Contains, slice_get, ◌==◌}
 use Rattle.std.proofs.lemmas.List.Elements.{Contains-append_left, Contains-append_right}
 use Rattle.cp_base.specs.Identifiers.{replay_id}
@@ -19,7 +19,6 @@ use Rattle.cp_object_ops.specs.declared.latch_op.LatchOp.TheVariants as latch
 use Rattle.cp_ops.specs.declared.session_op.SessionOp.TheVariants as session
 use Rattle.cp_events.specs.declared.effects.Effects.{Effects}
 use Rattle.cp_events.specs.declared.effects.Ending.TheVariants as ending
-use Rattle.cp_events.specs.declared.effects.Return.{Return}
 use Rattle.cp_events.specs.declared.event.Event.{Event}
 use Rattle.cp_events.specs.declared.event.Event.TheVariants as event
 use Rattle.cp_events.specs.declared.plan.Plan.{Plan}
@@ -30,8 +29,7 @@ use Rattle.cp_events.specs.declared.user_op.UserOp.{UserOp}
 use Rattle.cp_events.specs.declared.user_op.UserOp.TheVariants as user
 use Rattle.cp_group_state.specs.GroupState.{empty}
 use Rattle.cp_group_state.specs.Apply.{Applied, run}
-use Rattle.cp_group_state.specs.Fences.{HasFences}
-use Rattle.cp_group_state.specs.History.{Given, IsFullyOrderly, IsGivenAt, IsOrderly, answers_of, given_from, sessions_in, sessions_in_op}
+use Rattle.cp_group_state.specs.History.{Given, IsGivenAt, IsOrderly, answers_of, given_from, sessions_in}
 use Rattle.cp_group_state.proofs.Once.{acts-once}
 use Rattle.cp_group_state.proofs.Holds.{have-fences}
 use Rattle.cp_group_state.proofs.Moments.{fully-orderly}
@@ -44,23 +42,23 @@ use Rattle.cp_client_rules.specs.Asking.{default_group, op_of}
 use Rattle.cp_client_rules.specs.Calls.{patience}
 use Rattle.cp_world_rules.specs.Rows.{Called, Committed, End, Opening, Request, Returned, entries_of}
 use Rattle.cp_world_rules.specs.World.{World, new_world, world_after, world_step}
-use Rattle.cp_world_rules.specs.Execution.{Execution, Outcomes, events_of, executed, execution_of, histories_of, history, line_after, lines_after, openings_in, returns_in, rows_of, settles}
+use Rattle.cp_world_rules.specs.Execution.{Outcomes, events_of, executed, execution_of, histories_of, history, lines_after, openings_in, returns_in, rows_of, settles}
 use Rattle.cp_world_rules.specs.Requests.{AskedNothing, AsksItselfOnce, CallsStand, EndsOnce, IsBeat, IsCallOf, IsCallOfReturn, IsForItself, IsLastNumber, IsRequestOfCall, MayAsk, ReturnsOnce, TookPlace}
 use Rattle.cp_world_rules.specs.Entries.{EntriesAreAsked, HistoriesStand, HistoryIsGood, IsLengthAt, IsOfRequest, IsOwnEntry, LengthsAreTrue, RowsAreInOrder}
 use Rattle.cp_world_rules.specs.Answers.{GoesOn, IsAnswered, IsCommittedAt, lets_go_on}
-use Rattle.cp_world_rules.specs.Returns.{EndedHere, IsTold, LostOwnership, PassedDeadline, answered, at_once, clock_after, late, lost, request_of}
+use Rattle.cp_world_rules.specs.Returns.{IsTold, LostOwnership, PassedDeadline, answered, at_once, clock_after, late, lost, request_of}
 use Rattle.cp_world_rules.specs.Holding.{holds_before}
 use Rattle.cp_group_state.specs.Protected.{session_in}
-use Rattle.cp_world_rules.specs.Telling.{EventsTell, FollowsLines, Happened, IsOpening, IsReturnOf, StandFor, StandsOpened}
+use Rattle.cp_world_rules.specs.Telling.{Happened, IsOpening, IsReturnOf, StandFor, StandsOpened}
 use Rattle.cp_world_rules.specs.Sessions.{TellsSession}
 use Rattle.cp_world_rules.specs.Judging.{BeginsAtOnce, ClientsAct, IsOver, ended, went_on}
 use Rattle.cp_world_rules.specs.Judging as judging
-use Rattle.cp_world_rules.specs.Prompt.{IsIgnoredSo, IsPrompt}
+use Rattle.cp_world_rules.specs.Prompt.{IsIgnoredSo}
 use Rattle.cp_world_rules.specs.Headline.{Headline}
 use Rattle.cp_world_rules.proofs.Lists.{entries-length, get-map, get-some, one-there}
 use Rattle.cp_world_rules.proofs.Ledgers.{IsSourced, ToldBy, by_call, by_clock, by_end, by_loss, ledger_of}
 use Rattle.cp_world_rules.proofs.GroupLaws.{prepares}
-use Rattle.cp_world_rules.proofs.Good.{AnsweredBy, Good, IsReturned, used-in}
+use Rattle.cp_world_rules.proofs.Good.{Good, IsReturned, used-in}
 use Rattle.cp_world_rules.proofs.Lengths.{Measured, measured-first, measured-kept}
 use Rattle.cp_world_rules.proofs.Walking.{all-kept}
 use Rattle.cp_world_rules.proofs.Begun.{AllBegun, BeginsIn, all-begun}

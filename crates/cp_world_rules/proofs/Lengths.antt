@@ -1,23 +1,20 @@
 -- Lengths and events of rows: entries stand in the order of their events, and each row has the length of its moment.
-use Rattle.std.proofs.Common.{◌≡◌, ℕ, ◌+◌, ◌<◌, ◌≤◌, ◌⊎◌, inl, inr, List, [], ◌∷◌, ◌++◌, Some, None, refl, sym, subst, ap, arith, length, map, le_refl, le_trans}
+use Rattle.std.proofs.Common.{◌≡◌, ℕ, ◌+◌, ◌<◌, ◌≤◌, ◌⊎◌, inl, inr, List, [], ◌∷◌, ◌++◌, Some, refl, sym, subst, ap, arith, length, map, le_refl, le_trans}
 use Rattle.std.specs.Prelude.{Contains, slice_get}
 use Rattle.std.proofs.lemmas.List.{length_push}
 use Rattle.std.proofs.lemmas.List.Elements.{Contains-append_cases}
 use Rattle.cp_base.specs.declared.identifier.ClientNo.{ClientNo}
 use Rattle.cp_base.specs.declared.identifier.GroupId.{GroupId}
-use Rattle.cp_base.specs.declared.identifier.Invocation.{Invocation}
 use Rattle.cp_base.proofs.Tests.{none_some}
-use Rattle.cp_answers.specs.declared.answer.Answer.{Answer}
 use Rattle.cp_ops.specs.declared.entry.Entry.TheVariants as entry
-use Rattle.cp_events.specs.declared.event.Event.{Event}
 use Rattle.cp_group_causes.proofs.Lists.{get-contains, get-in, mapped, no-element}
 use Rattle.cp_client_rules.specs.Asking.{default_group}
 use Rattle.cp_client_rules.specs.Clients.{Asked, Did}
 use Rattle.cp_world_rules.specs.Rows.{Committed, End, Request}
-use Rattle.cp_world_rules.specs.World.{World, begins_now, commit, ends_now, note, start}
+use Rattle.cp_world_rules.specs.World.{World, begins_now, commit, ends_now, note}
 use Rattle.cp_world_rules.specs.Entries.{EventsRise, IsLengthAt}
 use Rattle.cp_world_rules.proofs.Lists.{get-append, one-there}
-use Rattle.cp_world_rules.proofs.Walking.{IsBetween, IsKept, IsKeptBetween}
+use Rattle.cp_world_rules.proofs.Walking.{IsKeptBetween}
 
 -- a row's place in time
 pub record IsPlaced (history : List Committed) (now : ℕ) (group : GroupId) (event len : ℕ) : Type 0 where

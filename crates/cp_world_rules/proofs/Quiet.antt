@@ -4,10 +4,8 @@ use Rattle.std.specs.Prelude.{Contains, nat_lt}
 use Rattle.std.proofs.lemmas.List.Elements.{Contains-push_cases}
 use Rattle.cp_base.specs.Identifiers.{replay_id}
 use Rattle.cp_base.specs.declared.identifier.ClientNo.{ClientNo}
-use Rattle.cp_base.specs.declared.identifier.Invocation.{Invocation}
 use Rattle.cp_base.specs.declared.identifier.ThreadNo.{ThreadNo}
 use Rattle.cp_base.proofs.Tests.{none_some}
-use Rattle.cp_answers.specs.declared.answer.Answer.{Answer}
 use Rattle.cp_events.specs.declared.effects.Effects.{Effects}
 use Rattle.cp_events.specs.declared.effects.Ignored.{Ignored}
 use Rattle.cp_events.specs.declared.event.Event.{Event}
@@ -19,9 +17,8 @@ use Rattle.cp_group_causes.proofs.Lists.{one-is}
 use Rattle.cp_client_rules.specs.declared.rows.Pending.{Pending}
 use Rattle.cp_client_rules.specs.Calls.{call_client}
 use Rattle.cp_client_rules.specs.Ticks.{tick_client}
-use Rattle.cp_client_rules.specs.Clients.{Asked, Did, thread_at}
-use Rattle.cp_world_rules.specs.Rows.{Called, Moved}
-use Rattle.cp_world_rules.specs.World.{World, begin, calls_if_idle, client_at, hand_all, handed, ignore, is_client, moves_if_room, new_world, shows_nothing, start, world_after, world_step}
+use Rattle.cp_client_rules.specs.Clients.{thread_at}
+use Rattle.cp_world_rules.specs.World.{World, begin, calls_if_idle, client_at, hand_all, handed, is_client, moves_if_room, new_world, shows_nothing, start, world_after, world_step}
 use Rattle.cp_world_rules.proofs.Walking.{IsHanded, IsKept, does-kept, event-kept, handed-kept}
 use Rattle.cp_world_rules.proofs.Settled.{RestsAfter, rests, step-rests}
 

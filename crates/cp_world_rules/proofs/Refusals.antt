@@ -1,9 +1,8 @@
 -- Each wrong execution is refused, computed.
-use Rattle.std.proofs.Common.{◌≡◌, ℕ, ◌+◌, ◌<◌, ◌≤◌, ◌⊎◌, inl, inr, Bool, true, false, List, [], ◌∷◌, ◌++◌, Some, None, refl, sym, subst, ap, ◌∙◌, arith, length, map, zero, suc, le_refl}
-use Rattle.std.specs.Prelude.{Contains, slice_get, ℤ, pos, negsuc, unsigned_abs}
+use Rattle.std.proofs.Common.{◌≡◌, ℕ, ◌+◌, ◌≤◌, ◌⊎◌, inl, inr, true, false, List, [], ◌∷◌, ◌++◌, Some, None, refl, sym, subst, ap, ◌∙◌, arith, length, zero, suc, le_refl}
+use Rattle.std.specs.Prelude.{Contains, slice_get, ℤ, pos, unsigned_abs}
 use Rattle.std.proofs.lemmas.List.Elements.{Contains-push}
 use Rattle.cp_base.proofs.Tests.{no_false, no_true, none_some, same_some}
-use Rattle.cp_base.specs.declared.identifier.ClientId.{ClientId}
 use Rattle.cp_base.specs.declared.identifier.Invocation.{Invocation}
 use Rattle.cp_base.specs.declared.identifier.ThreadNo.{ThreadNo}
 use Rattle.cp_answers.specs.declared.answer.Answer.{Answer}
@@ -23,7 +22,6 @@ use Rattle.cp_base.specs.declared.identifier.ClientNo.{ClientNo}
 use Rattle.cp_events.specs.declared.effects.Ignored.TheVariants as ignored
 use Rattle.cp_events.specs.declared.effects.Return.{Return}
 use Rattle.cp_events.specs.declared.event.Event.{Event}
-use Rattle.cp_events.specs.declared.event.Event.TheVariants as event
 use Rattle.cp_events.specs.declared.schedule.Line.{Line}
 use Rattle.cp_events.specs.declared.schedule.Line.TheVariants as line
 use Rattle.cp_events.specs.declared.user_op.UserOp.TheVariants as user
@@ -32,9 +30,9 @@ use Rattle.cp_group_state.specs.History.{Given, IsFullyOrderly, state_before}
 use Rattle.cp_group_causes.proofs.Lists.{at-head, get-in, no-element, one-is, one-only}
 use Rattle.cp_client_rules.specs.Asking.{default_group, wish_of}
 use Rattle.cp_client_rules.specs.Calls.{patience}
-use Rattle.cp_world_rules.specs.Rows.{Called, Committed, End, Opening, Request, Returned, entries_of}
+use Rattle.cp_world_rules.specs.Rows.{Called, Committed, End, Request, Returned, entries_of}
 use Rattle.cp_world_rules.specs.Execution.{Execution, history}
-use Rattle.cp_world_rules.specs.Requests.{AskedNothing, AsksItselfOnce, CallsStand, EndsOnce, IsBeat, IsCallOf, IsForItself, IsForNeed, IsRequestOfCall, MayAsk, NumbersRise, Requested, ReturnsOnce, RoundsAreTold}
+use Rattle.cp_world_rules.specs.Requests.{AskedNothing, AsksItselfOnce, CallsStand, EndsOnce, IsBeat, IsCallOf, IsRequestOfCall, MayAsk, NumbersRise, Requested, ReturnsOnce, RoundsAreTold}
 use Rattle.cp_world_rules.specs.Entries.{EntriesAreAsked, EventsRise, HistoriesStand, IsOfRequest, IsOwnEntry, LengthsAreTrue, NamesOwnSessions, RowsAreInOrder}
 use Rattle.cp_world_rules.specs.Answers.{AllAnswered, GoesOn, IsAnswered, IsOfEndedGroup, lets_go_on}
 use Rattle.cp_world_rules.specs.Holding.{holds_before}
@@ -43,7 +41,7 @@ use Rattle.cp_world_rules.specs.Telling.{EventsTell, FollowsLines, IsReturnOf}
 use Rattle.cp_world_rules.specs.Judging.{BeginsAtOnce, ClientsAct, IsOver, ended, went_on}
 use Rattle.cp_world_rules.specs.Judging as judging
 use Rattle.cp_world_rules.specs.Prompt.{IsPrompt}
-use Rattle.cp_world_rules.specs.Wrong.{AreRefused, acquire, add, answers_at_will, answers_nobody, answers_too_early, answers_twice, asks, asks_as_if_nothing_stood, asks_for_an_older_call, asks_in_an_ignored_event, asks_twice, call_of, client, closes_a_session_to_come, closes_anothers_session, closes_without_asking, commits_nothing, counts_an_older_round, counts_wrongly, does_nothing, enters, enters_before_it_is_asked, enters_in_the_wrong_order, enters_unasked, forgets_a_call, get, gets, gives, gives_up_early, gives_up_for_an_older_call, gives_up_without_a_deadline, goes_nowhere, hides_a_session, hides_the_loss, ignores_a_client, ignores_an_idle_thread, ignores_and_returns, increments, invocation, is_told, keeps_an_answer, lists_in_the_wrong_order, locks, loses_what_it_gave_back, makes, makes_a_call_up, never_returns, one_client, one_is, opening, opens, opens_what_nobody_asked, release, returns_at_will, returns_by_an_older_request, returns_to_nobody, returns_twice, returns_what_it_needed, shows, skips_a_line, takes_a_number_twice, takes_an_old_number, tells_two_histories, thread, zero_is}
+use Rattle.cp_world_rules.specs.Wrong.{AreRefused, acquire, add, answers_at_will, answers_nobody, answers_too_early, answers_twice, asks, asks_as_if_nothing_stood, asks_for_an_older_call, asks_in_an_ignored_event, asks_twice, call_of, client, closes_a_session_to_come, closes_anothers_session, closes_without_asking, commits_nothing, counts_an_older_round, counts_wrongly, does_nothing, enters, enters_before_it_is_asked, enters_in_the_wrong_order, enters_unasked, forgets_a_call, get, gets, gives, gives_up_early, gives_up_for_an_older_call, gives_up_without_a_deadline, goes_nowhere, hides_a_session, hides_the_loss, ignores_a_client, ignores_an_idle_thread, ignores_and_returns, increments, invocation, is_told, keeps_an_answer, lists_in_the_wrong_order, locks, loses_what_it_gave_back, makes, makes_a_call_up, never_returns, one_client, one_is, opening, opens_what_nobody_asked, release, returns_at_will, returns_by_an_older_request, returns_to_nobody, returns_twice, returns_what_it_needed, shows, skips_a_line, takes_a_number_twice, takes_an_old_number, tells_two_histories, thread, zero_is}
 
 -- a return of client 1 and its thread 1
 abbrev row : ℕ → ℕ → Answer → Returned

@@ -1,5 +1,5 @@
 -- The invariant holds of every run, and the promises follow from it.
-use Rattle.std.proofs.Common.{◌≡◌, ℕ, ◌+◌, ◌^◌, ◌≤◌, true, false, List, [], ◌∷◌, ◌++◌, Some, None, Option, refl, subst, arith, length, le_refl, le_trans}
+use Rattle.std.proofs.Common.{◌≡◌, ℕ, ◌+◌, ◌^◌, ◌≤◌, true, false, List, [], ◌∷◌, ◌++◌, Some, None, Option, refl, subst, length, le_refl, le_trans}
 use Rattle.std.specs.Prelude.{Contains, nat_lt}
 use Rattle.std.proofs.lemmas.List.Elements.{All-nil, Contains-append_left, Contains-push}
 use Rattle.cp_base.specs.Identifiers.{replay_id}
@@ -26,7 +26,7 @@ use Rattle.cp_client_rules.specs.Calls.{call_client}
 use Rattle.cp_client_rules.specs.Answers.{answer_client}
 use Rattle.cp_client_rules.specs.Ticks.{tick_client}
 use Rattle.cp_world_rules.specs.Rows.{Called, Committed, Moved, Request}
-use Rattle.cp_world_rules.specs.World.{World, begin, calls_if_idle, client_at, client_of, close, hand_all, hand_on, handed, ignore, is_client, moves_now, new_world, start, world_after, world_step}
+use Rattle.cp_world_rules.specs.World.{World, begin, calls_if_idle, client_at, client_of, close, hand_all, hand_on, handed, ignore, is_client, moves_now, new_world, start, world_step}
 use Rattle.cp_world_rules.proofs.Ledgers.{Extends, HoldOk, OpenedIn, client-on, ledger_of, source-on, told-on}
 use Rattle.cp_world_rules.proofs.Good.{AnsweredBy, Entered, Given as GivenTo, Good}
 use Rattle.cp_world_rules.proofs.Does.{does-given, does-good}

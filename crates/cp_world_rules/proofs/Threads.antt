@@ -1,6 +1,6 @@
 -- A client's step, thread by thread: what its threads work on stays in order.
-use Rattle.std.proofs.Common.{◌≡◌, ℕ, ◌+◌, ◌<◌, ◌≤◌, ◌⊎◌, inl, inr, Bool, true, false, not, List, [], ◌∷◌, ◌++◌, Some, None, Option, refl, sym, subst, ap, ◌∙◌, arith, length, map, le_refl, le_trans, append_assoc}
-use Rattle.std.specs.Prelude.{Contains, nat_lt, slice_get}
+use Rattle.std.proofs.Common.{◌≡◌, ℕ, ◌+◌, ◌<◌, ◌≤◌, ◌⊎◌, inl, inr, Bool, true, false, List, [], ◌∷◌, ◌++◌, Some, None, refl, sym, subst, ap, ◌∙◌, arith, map, le_trans, append_assoc}
+use Rattle.std.specs.Prelude.{Contains, nat_lt}
 use Rattle.std.specs.Ordering.{is_eq, nat_cmp}
 use Rattle.std.specs.BTreeMap.{is_at}
 use Rattle.std.proofs.lemmas.Bool.Decides.{nat_tests}
@@ -12,13 +12,9 @@ use Rattle.cp_base.specs.declared.identifier.Invocation.{Invocation}
 use Rattle.cp_base.specs.declared.identifier.ThreadNo.{ThreadNo}
 use Rattle.cp_base.proofs.Tests.{no_false, none_some, same_some}
 use Rattle.cp_answers.specs.declared.answer.Answer.{Answer}
-use Rattle.cp_answers.specs.declared.answer.Answer.TheVariants as answer
-use Rattle.cp_ops.specs.declared.op.Op.{Op}
-use Rattle.cp_events.specs.declared.effects.Ending.TheVariants as ending
 use Rattle.cp_events.specs.declared.effects.Return.{Return}
 use Rattle.cp_events.specs.declared.plan.Plan.{Plan}
 use Rattle.cp_events.specs.declared.user_op.UserOp.{UserOp}
-use Rattle.cp_group_state.specs.Rows.{find}
 use Rattle.cp_group_state.proofs.Keyed.{equal_is, find-put_same, find-put_other, number_key}
 use Rattle.cp_client_rules.specs.declared.rows.Pending.{Pending}
 use Rattle.cp_client_rules.specs.declared.rows.Task.TheVariants as task
@@ -26,15 +22,14 @@ use Rattle.cp_client_rules.specs.declared.rows.Thread.{Thread}
 use Rattle.cp_client_rules.specs.Asking.{wish_of}
 use Rattle.cp_client_rules.specs.Calls.{deadline_of}
 use Rattle.cp_client_rules.specs.Ticks.{own_thread}
-use Rattle.cp_client_rules.specs.Clients.{Asked, Client, Did, or_new, thread_at, with_thread}
+use Rattle.cp_client_rules.specs.Clients.{Asked, Client, or_new, thread_at, with_thread}
 use Rattle.cp_world_rules.specs.Rows.{Called, End, Request, Returned}
-use Rattle.cp_world_rules.specs.World.{World, begins_now, client_at, client_of, ends_now, note, returns_now}
-use Rattle.cp_world_rules.specs.World as worlds
+use Rattle.cp_world_rules.specs.World.{World, begins_now, client_at, ends_now, returns_now}
 use Rattle.cp_world_rules.specs.Requests.{MayAsk}
 use Rattle.cp_world_rules.specs.Laws.{is_for_itself}
 use Rattle.cp_world_rules.proofs.Lists.{push-none}
 use Rattle.cp_world_rules.proofs.GroupLaws.{prepares}
-use Rattle.cp_world_rules.proofs.Desks.{Apart, AsksNone, Between, Book, BookOk, IsAsked, IsLast, IsNow, IsNumbered, IsOpen, IsOther, IsSourcedBy, OverIn, Owns, TaskWorks, Tells, ThreadOk, Works, book-end, book-request, book-return, first_prepares, has_gone_on, is_beat, of_thread, other_call, over-end, over-request, over-return, replay-same, second_beats, thread-end, thread-request, thread-return, was_ended, was_returned, with_end, with_request, with_return, works-end, works-request}
+use Rattle.cp_world_rules.proofs.Desks.{Apart, AsksNone, Between, Book, BookOk, IsAsked, IsLast, IsNow, IsNumbered, IsOpen, IsOther, IsSourcedBy, OverIn, Owns, TaskWorks, Tells, ThreadOk, Works, book-end, book-request, book-return, first_prepares, has_gone_on, is_beat, of_thread, other_call, over-end, over-request, over-return, replay-same, second_beats, thread-end, thread-request, thread-return, was_ended, was_returned, with_end, with_request, with_return, works-request}
 
 at-self : (n : ℕ) → is_at (nat_cmp n) n ≡ false → ⊥
 at-self n h = no (sym (ap is_eq (number_key.here n)) ∙ h) where

@@ -1,9 +1,8 @@
 -- The sessions that clients were told stand printed, and what takes them is told too.
-use Rattle.std.proofs.Common.{◌≡◌, ℕ, ◌+◌, ◌<◌, ◌≤◌, ◌⊎◌, inl, inr, Bool, true, false, ◌&&◌, not, List, [], ◌∷◌, ◌++◌, Some, None, Option, refl, sym, subst, ap, ◌∙◌, arith, length, map, zero, suc, le_refl, le_trans, append_assoc, if◌then◌else◌}
-use Rattle.std.specs.Prelude.{Contains, slice_get, nat_lt, ◌==◌, unsigned_abs}
+use Rattle.std.proofs.Common.{◌≡◌, ℕ, ◌+◌, ◌<◌, ◌≤◌, ◌⊎◌, inl, inr, Bool, true, false, List, [], ◌∷◌, ◌++◌, Some, None, Option, refl, sym, subst, ap, ◌∙◌, arith, length, map, le_refl, le_trans, append_assoc, if◌then◌else◌}
+use Rattle.std.specs.Prelude.{Contains, slice_get, ◌==◌, unsigned_abs}
 use Rattle.std.specs.Ordering.{nat_cmp}
 use Rattle.std.specs.BTreeMap.{is_at}
-use Rattle.std.proofs.lemmas.List.{map-append}
 use Rattle.std.proofs.lemmas.List.Elements.{Contains-append_cases, Contains-append_left, Contains-append_right}
 use Rattle.cp_base.specs.Identifiers.{replay_id}
 use Rattle.cp_base.specs.declared.identifier.ClientId.{ClientId}
@@ -25,13 +24,11 @@ use Rattle.cp_events.specs.declared.effects.Opened.{Opened}
 use Rattle.cp_events.specs.declared.effects.Return.{Return}
 use Rattle.cp_events.specs.declared.event.Event.{Event}
 use Rattle.cp_events.specs.declared.plan.Plan.{Plan}
-use Rattle.cp_events.specs.declared.user_op.LockCall.{LockCall}
 use Rattle.cp_events.specs.declared.user_op.UserOp.{UserOp}
 use Rattle.cp_events.specs.declared.user_op.UserOp.TheVariants as user
 use Rattle.cp_group_state.specs.Rows.{find, put, without}
 use Rattle.cp_group_state.proofs.Walk.{cases, either}
 use Rattle.cp_group_causes.proofs.Lists.{at-head, get-contains, map-in, mapped, no-element, one-is}
-use Rattle.cp_client_rules.specs.declared.rows.HoldRecord.{HoldRecord}
 use Rattle.cp_client_rules.specs.declared.rows.OwnSession.{OwnSession}
 use Rattle.cp_client_rules.specs.declared.rows.Pending.{Pending}
 use Rattle.cp_client_rules.specs.declared.rows.Purpose.{Purpose}
@@ -42,15 +39,14 @@ use Rattle.cp_client_rules.specs.declared.rows.Thread.{Thread}
 use Rattle.cp_client_rules.specs.Asking.{Need, Nothing, HoldingSession, ItsSession, SessionToClose, Round, default_group, group_of, need_of, op_of, wish_of}
 use Rattle.cp_client_rules.specs.Answers.{answer_client, call_in, finished, on_pending, on_task, prepared}
 use Rattle.cp_client_rules.specs.Calls.{Call, by_need, call_client, closing, deadline_of, go_on, holding_session, in_session, pending_of}
-use Rattle.cp_client_rules.specs.Clients.{Asked, Client, Did, Holds, LockKey, Sessions, and_then, ask, done_at_once, id_of, idle, nothing, session_in_group, thread_at, with_thread}
+use Rattle.cp_client_rules.specs.Clients.{Client, Did, Sessions, and_then, ask, id_of, nothing, session_in_group, thread_at, with_thread}
 use Rattle.cp_client_rules.specs.Holds.{holding}
-use Rattle.cp_client_rules.specs.Sessions.{forget_session, forgets, has_session, is_session, opens, sessions_after, with_session}
-use Rattle.cp_client_rules.specs.Ticks.{beat, beat_each, beat_if_due, beats, end_each, end_late, is_due, is_late, own_thread, tick_client, user_threads}
-use Rattle.cp_world_rules.specs.Rows.{Called, End, Moved, Opening, Request, Returned}
+use Rattle.cp_client_rules.specs.Sessions.{forget_session, forgets, is_session, opens, sessions_after}
+use Rattle.cp_client_rules.specs.Ticks.{beat_each, beat_if_due, beats, end_each, end_late, is_due, is_late, own_thread, tick_client, user_threads}
+use Rattle.cp_world_rules.specs.Rows.{End, Opening, Request, Returned}
 use Rattle.cp_world_rules.specs.Execution.{openings_in}
 use Rattle.cp_world_rules.specs.Requests.{needs_session}
 use Rattle.cp_world_rules.specs.Returns.{request_of}
-use Rattle.cp_world_rules.specs.Answers.{lets_go_on}
 use Rattle.cp_world_rules.specs.Sessions.{AllTaken, IsTaken, TakesSession, TellsSession}
 use Rattle.cp_world_rules.specs.Sessions as told
 use Rattle.cp_world_rules.specs.World.{World, begins_now, client_at, client_of, close, commit, ends_now, ignore, new_world, note, returns_now, start, world_after}

@@ -1,5 +1,5 @@
 -- What the steps of a world keep, step by step.
-use Rattle.std.proofs.Common.{◌≡◌, ℕ, ◌+◌, ◌<◌, ◌≤◌, List, [], ◌∷◌, ◌++◌, Some, None, Option, refl, arith, length, le_refl}
+use Rattle.std.proofs.Common.{◌≡◌, ℕ, ◌+◌, ◌<◌, List, [], ◌∷◌, ◌++◌, Some, None, Option, refl, arith, length}
 use Rattle.std.specs.Prelude.{nat_lt}
 use Rattle.std.proofs.lemmas.List.{length_push}
 use Rattle.cp_base.specs.declared.limits.TheConstants.{LAST_NUMBER}
@@ -8,7 +8,6 @@ use Rattle.cp_base.specs.declared.identifier.ClientNo.{ClientNo}
 use Rattle.cp_base.specs.declared.identifier.Invocation.{Invocation}
 use Rattle.cp_base.specs.declared.identifier.ThreadNo.{ThreadNo}
 use Rattle.cp_answers.specs.declared.answer.Answer.{Answer}
-use Rattle.cp_events.specs.declared.effects.Effects.{Effects}
 use Rattle.cp_events.specs.declared.effects.Ignored.{Ignored}
 use Rattle.cp_events.specs.declared.event.Event.{Event}
 use Rattle.cp_events.specs.declared.event.Event.TheVariants as event
@@ -21,7 +20,7 @@ use Rattle.cp_client_rules.specs.Calls.{call_client}
 use Rattle.cp_client_rules.specs.Answers.{answer_client}
 use Rattle.cp_client_rules.specs.Ticks.{tick_client}
 use Rattle.cp_world_rules.specs.Rows.{Called, Moved}
-use Rattle.cp_world_rules.specs.World.{World, begin, calls_if_idle, client_at, client_of, close, commit, commit_all, does, hand_all, hand_on, handed, ignore, is_client, moves_if_room, moves_now, new_world, note, start, world_after, world_step}
+use Rattle.cp_world_rules.specs.World.{World, begin, calls_if_idle, client_at, client_of, close, commit, commit_all, does, hand_all, hand_on, handed, ignore, is_client, moves_if_room, new_world, note, start, world_after, world_step}
 
 -- Kept where clients take steps and requests are committed, whatever clients do.
 pub record IsHanded (P : World → Type 0) : Type 0 where

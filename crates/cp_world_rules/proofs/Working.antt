@@ -1,5 +1,5 @@
 -- What a client's threads work on at a call, at an answer and at a tick.
-use Rattle.std.proofs.Common.{◌≡◌, ℕ, ◌+◌, ◌<◌, ◌≤◌, ◌⊎◌, inl, inr, Bool, true, false, not, List, [], ◌∷◌, ◌++◌, Some, None, Option, refl, sym, subst, ap, ◌∙◌, arith, length, le_refl}
+use Rattle.std.proofs.Common.{◌≡◌, ℕ, ◌+◌, ◌≤◌, ◌⊎◌, inl, inr, Bool, true, false, not, List, [], ◌∷◌, Some, None, Option, refl, sym, subst, ap, ◌∙◌, arith, le_refl}
 use Rattle.std.specs.Prelude.{Contains, nat_lt, unsigned_abs, ◌==◌}
 use Rattle.std.specs.Ordering.{nat_cmp}
 use Rattle.std.proofs.lemmas.Bool.Decides.{nat_tests}
@@ -22,8 +22,6 @@ use Rattle.cp_events.specs.declared.effects.Return.{Return}
 use Rattle.cp_events.specs.declared.plan.Plan.{Plan}
 use Rattle.cp_events.specs.declared.user_op.LockCall.{LockCall}
 use Rattle.cp_events.specs.declared.user_op.LatchCall.TheVariants as latch_call
-use Rattle.cp_events.specs.declared.user_op.LockCall.TheVariants as lock_call
-use Rattle.cp_events.specs.declared.user_op.SemCall.TheVariants as sem_call
 use Rattle.cp_events.specs.declared.user_op.UserOp.{UserOp}
 use Rattle.cp_events.specs.declared.user_op.UserOp.TheVariants as user
 use Rattle.cp_group_state.specs.Rows.{find, put}
@@ -48,7 +46,7 @@ use Rattle.cp_world_rules.specs.World.{World, begins_now, client_at, client_of, 
 use Rattle.cp_world_rules.specs.Requests.{MayAsk, needs_session}
 use Rattle.cp_world_rules.specs.Laws.{is_for_itself}
 use Rattle.cp_world_rules.proofs.GroupLaws.{prepares}
-use Rattle.cp_world_rules.proofs.Desks.{Book, IsAsked, IsOpen, IsOther, OverIn, Owns, TaskWorks, Tells, ThreadOk, Works, at_once, by_answer, of_thread, past, with_end, with_request, with_return, works-end}
+use Rattle.cp_world_rules.proofs.Desks.{Book, IsAsked, IsOpen, IsOther, OverIn, Owns, TaskWorks, Tells, ThreadOk, Works, at_once, by_answer, of_thread, past, with_end, with_return, works-end}
 use Rattle.cp_world_rules.proofs.Threads.{But, Mid, adds, adds-end, adds-none, adds-request, adds-return, adds-then, asks-for, beats-here, ends-here, lay-down, returns-here, take-up}
 
 no_true : false ≡ true → ⊥

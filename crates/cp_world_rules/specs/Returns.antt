@@ -1,14 +1,12 @@
 -- What a return tells, and why.
-use Rattle.std.specs.Prelude.{◌≡◌, ◌≤◌, ◌<◌, ◌+◌, ◌⊎◌, ℕ, false, Some, Option, List, [], ◌∷◌, ◌++◌, if◌then◌else◌, nat_le, Contains, ◌&&◌, is_none, ◌==◌, slice_get}
+use Rattle.std.specs.Prelude.{◌≡◌, ◌≤◌, ◌+◌, ℕ, false, Some, Option, List, [], ◌∷◌, ◌++◌, if◌then◌else◌, nat_le, Contains, ◌&&◌, is_none, ◌==◌, slice_get}
 use Rattle.cp_base.specs.Identifiers.{replay_id}
 use Rattle.cp_base.specs.declared.identifier.ClientNo.{ClientNo}
-use Rattle.cp_base.specs.declared.identifier.GroupId.{GroupId}
 use Rattle.cp_base.specs.declared.identifier.Invocation.{Invocation}
 use Rattle.cp_answers.specs.declared.answer.Answer.{Answer}
 use Rattle.cp_answers.specs.declared.answer.Answer.TheVariants as answer
 use Rattle.cp_answers.specs.declared.ended_by.EndedBy.TheVariants as ended_by
 use Rattle.cp_object_ops.specs.declared.lock_op.LockOp.{LockOp}
-use Rattle.cp_ops.specs.declared.op.Op.{Op}
 use Rattle.cp_ops.specs.declared.op.Op.TheVariants as op
 use Rattle.cp_events.specs.declared.effects.Effects.{Effects}
 use Rattle.cp_events.specs.declared.effects.Ending.TheVariants as ending
