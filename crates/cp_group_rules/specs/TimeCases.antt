@@ -41,6 +41,10 @@ expiry_entry = entry_at 1 (entry.SessionsExpired ((2, 0) ∷ []))
 abbrev pub expires_again : GroupStep
 expires_again = group_step registry far 1 (led (1 ∷ 2 ∷ 3 ∷ []) (open_entry ∷ expiry_entry ∷ [])) (with_session (leading 2)) (tick 302000)
 
+-- An expiry of the session's next version is on its way: this version is another session.
+abbrev pub expires_other : GroupStep
+expires_other = group_step registry far 1 (led (1 ∷ 2 ∷ 3 ∷ []) (open_entry ∷ entry_at 1 (entry.SessionsExpired ((2, 1) ∷ [])) ∷ [])) (with_session (leading 2)) (tick 302000)
+
 -- One that was no leader takes leadership long after its session was applied.
 abbrev pub leads_anew : GroupStep
 leads_anew = group_step registry far 1 (led one (open_entry ∷ [])) (with_session (record (started 0 2000) { commit = 2 })) (tick 302000)
@@ -59,3 +63,7 @@ waits_till clock = group_step queue far 1 (led one (add_entry ∷ [])) (with_wai
 -- The call comes again at 2,300 ms.
 abbrev pub waits_again : GroupStep
 waits_again = group_step queue far 1 (led one (add_entry ∷ [])) (with_wait (record (leading 2) { clock = 2300 })) (Asks 17 (call 1) 2 add)
+
+-- One that was no leader takes leadership at 2,400 ms.
+abbrev pub waits_on : GroupStep
+waits_on = group_step queue far 1 (led one (add_entry ∷ [])) (with_wait (record (started 0 0) { commit = 2 })) (tick 2400)

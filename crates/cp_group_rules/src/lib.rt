@@ -14,8 +14,8 @@ ghost use Rattle.cp_group_rules.specs.Laws.{TicksMayBeQuiet, ViewsGoOn, CommitsM
 ghost use Rattle.cp_group_rules.specs.Worked.{counter, attempt, replied};
 ghost use Rattle.cp_group_rules.specs.Cases.{elected, election, added, addition, asks_a_follower, asks_for_a_change, refuse};
 ghost use Rattle.cp_group_rules.specs.Cases.{steps_down, lost, commits_first, commits_both};
-ghost use Rattle.cp_group_rules.specs.TimeCases.{expires, expires_again, appends, expiry_entry, leads_anew, session_since};
-ghost use Rattle.cp_group_rules.specs.TimeCases.{waits_till, waits_again, wait_since};
+ghost use Rattle.cp_group_rules.specs.TimeCases.{expires, expires_again, expires_other, appends, expiry_entry, leads_anew};
+ghost use Rattle.cp_group_rules.specs.TimeCases.{session_since, waits_till, waits_again, waits_on, wait_since};
 ghost use Rattle.cp_group_rules.specs.SnapshotCases.{snapped, gets_snapshot, follows, reads_alone, begins_to_read, rounds_asked};
 ghost use Rattle.cp_group_rules.specs.SnapshotCases.{reader, hears, read_lost, reads_by_an_entry};
 
@@ -62,16 +62,19 @@ pub fn expires_sessions()
     ensures entry { (expires 302000).part ≡ appends 2 expiry_entry }
     ensures running { (expires 302000).group.running ≡ [] }
     ensures twice { expires_again.part ≡ None }
+    ensures version { expires_other.part ≡ appends 3 expiry_entry }
     ensures leader { leads_anew.group.running ≡ session_since 302000 ∷ [] }
 {}
 
-/// A call that waits is answered once its time is over, and not before. That it comes again gives it no more time.
+/// A call that waits is answered once its time is over, and not before. Neither that it comes again nor a new leader gives it
+/// more time.
 pub fn times_out_waits()
     ensures before { (waits_till 2499).part ≡ None }
     ensures reply { (waits_till 2500).replies ≡ replied 1 answer.TimedOut ∷ [] }
     ensures pending { (waits_till 2500).group.pending ≡ [] }
     ensures running { (waits_till 2500).group.running ≡ [] }
     ensures again { waits_again.group.running ≡ wait_since 2000 ∷ [] }
+    ensures leader { waits_on.group.running ≡ wait_since 2000 ∷ [] }
     ensures both { waits_again.group.pending ≡ attempt 1 2 ∷ attempt 2 3 ∷ [] }
 {}
 

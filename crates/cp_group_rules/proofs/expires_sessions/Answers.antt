@@ -17,4 +17,4 @@ use Rattle.cp_group_rules.proofs.expires_sessions.Goals as goal
 
 pub returns : goal.returns
 unfolding big_endian whole mark_reading number_reading signed bytes_reading items_spelling items_reading each index index_pair name client_id thread_no member_no invocation member_after members long_op entry_within session_list op_within session_op config_grammar members_entry config_in head_grammar head_of config_after machine_in
-returns c = record { before = refl; entry = refl; running = refl; twice = refl; leader = refl }
+returns c = record { before = refl; entry = refl; running = refl; twice = refl; version = refl; leader = refl }
