@@ -7,6 +7,7 @@ pub mod Answering
 pub mod Events
 pub mod Steps
 pub mod Laws
+pub mod Replies
 pub mod Worked
 pub mod Cases
 pub mod TimeCases

@@ -3,7 +3,7 @@
 //! every machine. No code.
 #![tactic(auto)]
 
-ghost use Rattle.std.specs.Prelude.{◌≡◌, ◌++◌, [], ◌∷◌, pos, true, false, Some, None};
+ghost use Rattle.std.specs.Prelude.{◌≡◌, ◌++◌, [], ◌∷◌, pos, true, false, None};
 ghost use Rattle.cp_answers.specs.declared.answer.Answer.TheVariants as answer;
 ghost use Rattle.cp_answers.specs.declared.refusal.Refusal.TheVariants as refusal;
 ghost use Rattle.cp_rules.specs.Local.{Confirmed};
@@ -11,6 +11,7 @@ ghost use Rattle.cp_group_rules.specs.Groups.{begun};
 ghost use Rattle.cp_group_rules.specs.Machines.{Machine};
 ghost use Rattle.cp_group_rules.specs.Views.{base_view};
 ghost use Rattle.cp_group_rules.specs.Laws.{TicksMayBeQuiet, ViewsGoOn, CommitsMoveViews, SnapshotsRestore, MachinesReadBack};
+ghost use Rattle.cp_group_rules.specs.Replies.{RepliesHaveAnswers};
 ghost use Rattle.cp_group_rules.specs.Worked.{counter, attempt, replied};
 ghost use Rattle.cp_group_rules.specs.Cases.{elected, election, added, addition, asks_a_follower, asks_for_a_change, refuse};
 ghost use Rattle.cp_group_rules.specs.Cases.{steps_down, lost, commits_first, commits_both};
@@ -122,4 +123,10 @@ pub fn views_go_on<V>()
 pub fn snapshots_restore<V>()
     ensures bytes { MachinesReadBack }
     ensures machine { (m : Machine V) → SnapshotsRestore m }
+{}
+
+/// Each reply of a group has the answer that its machine gives to the call at an entry that is newly committed; or, of a
+/// read, what a look at the machine gives.
+pub fn replies_have_answers<V>()
+    ensures { (m : Machine V) → RepliesHaveAnswers m }
 {}
