@@ -1,0 +1,14 @@
+pub mod Machines
+pub mod Views
+pub mod Times
+pub mod Expiries
+pub mod Groups
+pub mod Answering
+pub mod Events
+pub mod Steps
+pub mod Laws
+pub mod Replies
+pub mod Worked
+pub mod Cases
+pub mod TimeCases
+pub mod SnapshotCases

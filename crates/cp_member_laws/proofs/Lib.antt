@@ -1,0 +1,14 @@
+pub mod Telling
+pub mod Following
+pub mod Saying
+pub mod Refusing
+pub mod Acting
+pub mod Rules
+pub mod Ticking
+pub mod Requesting
+pub mod Happening
+pub mod OnePart
+pub mod Past
+pub mod Once
+pub mod Refused
+pub mod Making

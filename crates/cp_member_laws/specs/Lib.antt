@@ -1,0 +1,4 @@
+pub mod Runs
+pub mod Asked
+pub mod Laws
+pub mod Worked

@@ -1,0 +1,15 @@
+pub mod Machines
+pub mod Letters
+pub mod Members
+pub mod MemberSteps
+pub mod Tasks
+pub mod Acting
+pub mod Requesting
+pub mod Proposing
+pub mod Following
+pub mod Ticks
+pub mod Steps
+pub mod Shows
+pub mod Worked
+pub mod Cases
+pub mod TaskCases
