@@ -8,3 +8,4 @@ pub mod Sound
 pub mod Written
 pub mod Snapshots
 pub mod There
+pub mod Causes

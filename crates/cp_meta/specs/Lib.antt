@@ -7,3 +7,4 @@ pub mod BytesLaws
 pub mod Lawful
 pub mod Spelled
 pub mod MetaRows
+pub mod Causes

@@ -1,5 +1,5 @@
 //! The text of METADATA's lists.
-use cp_base::{Items, NoMemory};
+use cp_base::{GroupId, NoMemory};
 use cp_meta::{GroupRow, MetaMachine, MoveRow, Standing};
 use cp_op_values::{append_members_text, append_numbered};
 
@@ -36,6 +36,22 @@ fn append_group(group: u64, row: &GroupRow, out: &mut Vec<u8>) -> Result<(), NoM
     append_members_text(row.members.as_slice(), out)?;
     out.push(b'\n')?;
     Ok(())
+}
+
+/// Appends the line of the group of a number, or `no group G`.
+pub fn append_group_of(
+    machine: &MetaMachine,
+    group: u64,
+    out: &mut Vec<u8>,
+) -> Result<(), NoMemory> {
+    match machine.group(GroupId(group)) {
+        Some(row) => append_group(group, row, out),
+        None => {
+            append_numbered(b"no group ", group, out)?;
+            out.push(b'\n')?;
+            Ok(())
+        }
+    }
 }
 
 fn append_groups(machine: &MetaMachine, out: &mut Vec<u8>) -> Result<(), NoMemory> {

@@ -3,9 +3,9 @@ ghost use Rattle.std.specs.Prelude.{◌≤◌, ◌^◌};
 ghost use Rattle.cp_machine.specs.Machines.{IsSized};
 
 use crate::answers;
-use cp_base::NoMemory;
-use cp_meta::MetaMachine;
-use std::alloc::{AllocError, Global};
+use cp_base::{GroupId, NoMemory};
+use cp_meta::{GroupRow, MetaMachine, MoveRow};
+use std::alloc::{AllocError, AllocFailed, Global};
 
 /// How many groups are made beside METADATA and `default`.
 const MADE: u64 = 62;
@@ -40,35 +40,85 @@ fn ended(alloc: Global, group: u64) -> Result<Vec<u8>, AllocError> {
     Ok(bytes)
 }
 
-/// The entry that says that `default` stands on member 2.
-fn moved(alloc: Global) -> Result<Vec<u8>, AllocError> {
+/// The entry that says that a group stands on these members.
+fn moved(alloc: Global, group: u64, index: u64, members: &[u8]) -> Result<Vec<u8>, AllocError> {
     let mut bytes = Vec::from_slice(alloc, &[7])?;
-    bytes.extend_from_slice(&1u64.to_be_bytes())?;
-    bytes.extend_from_slice(&5u64.to_be_bytes())?;
-    bytes.extend_from_slice(&[0, 0, 0, 1, 2])?;
+    bytes.extend_from_slice(&group.to_be_bytes())?;
+    bytes.extend_from_slice(&index.to_be_bytes())?;
+    bytes.extend_from_slice(&[0, 0, 0, members.len().min(9) as u8])?;
+    bytes.extend_from_slice(members)?;
     Ok(bytes)
 }
 
-/// An entry: at first the groups are made, then calls of all kinds follow. One group after another is destroyed, ends, and is made
-/// anew; its number was the index of its entry, 10 before or more.
-fn entry(alloc: Global, index: u64, made: u64) -> Result<Vec<u8>, AllocError> {
+/// Whether a member is in a group once its move is done.
+fn will_be_in(row: &GroupRow, change: &MoveRow, member: u8) -> bool {
+    member != change.remove
+        && (member == change.add || row.members.as_slice().iter().any(|other| *other == member))
+}
+
+/// The members of a group once its move is done.
+fn moved_members(
+    alloc: Global,
+    row: &GroupRow,
+    change: &MoveRow,
+) -> Result<Vec<u8>, AllocFailed<u8>> {
+    let mut members = Vec::new(alloc);
+    for member in 1..10 {
+        if will_be_in(row, change, member) {
+            members.push(member)?;
+        }
+    }
+    Ok(members)
+}
+
+/// The entry that says that the first move that stands is done; where none stands, that `default` stands on member 2.
+fn first_moved(alloc: Global, machine: &MetaMachine, index: u64) -> Result<Vec<u8>, NoMemory> {
+    let Some((group, change)) = machine.tasks().first_key_value() else {
+        return Ok(moved(alloc, 1, index, &[2])?);
+    };
+    let Some(row) = machine.group(GroupId(*group)) else {
+        return Ok(moved(alloc, 1, index, &[2])?);
+    };
+    let members = moved_members(alloc, row, change)?;
+    Ok(moved(alloc, *group, index, &members)?)
+}
+
+/// The member that leaves and joins in the thousand entries of this index.
+fn member_at(index: u64) -> u8 {
+    (index / 1000 % 9 + 1) as u8
+}
+
+/// What is asked about the member of an index: for 500 entries that it leaves, and for the next 500 that it joins.
+fn on_member(index: u64) -> [u8; 3] {
+    [10, (index / 500 % 2) as u8, member_at(index)]
+}
+
+/// What is asked about a group at an index: one after another is made, destroyed, and made anew once it has ended.
+fn asked(alloc: Global, index: u64) -> Result<Vec<u8>, AllocError> {
     let group = index / 10 % MADE;
-    let op = match index % 10 {
-        0 => on_group(alloc, 0, group)?,
-        1 => on_group(alloc, 0, 1000 + index)?,
+    match index % 10 {
+        1 => on_group(alloc, 0, 1000 + index),
         2 => Vec::from_slice(
             alloc,
             &[9, 1, 0, 0, 0, 7, b'd', b'e', b'f', b'a', b'u', b'l', b't'],
-        )?,
-        3 => on_group(alloc, 1, group)?,
-        4 => return ended(alloc, made),
-        5 => on_group(alloc, 0, group)?,
-        6 => return moved(alloc),
-        7 => return Vec::from_slice(alloc, &[8, 2]),
-        8 => Vec::from_slice(alloc, &[10, 1, 1])?,
-        _ => on_group(alloc, 0, group)?,
-    };
-    call(alloc, index, &op)
+        ),
+        3 => on_group(alloc, 1, group),
+        8 => Vec::from_slice(alloc, &on_member(index)),
+        _ => on_group(alloc, 0, group),
+    }
+}
+
+/// An entry, of all kinds in turn. The number of the group that has ended is the index at which it was made.
+fn entry(alloc: Global, machine: &MetaMachine, index: u64, made: u64) -> Result<Vec<u8>, NoMemory> {
+    match index % 10 {
+        4 => Ok(ended(alloc, made)?),
+        6 => first_moved(alloc, machine, index),
+        7 => Ok(Vec::from_slice(alloc, &[8, member_at(index)])?),
+        _ => {
+            let op = asked(alloc, index)?;
+            Ok(call(alloc, index, &op)?)
+        }
+    }
 }
 
 /// Makes the groups, and gives the indexes of their entries by their numbers.
@@ -96,7 +146,7 @@ pub fn apply_all(alloc: Global, count: u64) -> Result<(), NoMemory>
             Some(was) => *was,
             None => 0,
         };
-        let bytes = entry(alloc, index, was)?;
+        let bytes = entry(alloc, &machine, index, was)?;
         answers(alloc, &mut machine, index, &bytes)?;
         if index % 10 == 5 {
             if let Some(now) = made.get_mut(place) {

@@ -1,9 +1,9 @@
 //! Applies as many times 100,000 entries of METADATA, with 64 groups standing, as it is given words; the status is 0 where all are
 //! applied. Where the first word is `check`, the rows of the standard input are applied to METADATA's machine instead, and what they
 //! show is printed. Each row is one line: the index of an entry and the entry's bytes, as hexadecimal digits that spaces may part;
-//! `new N SIZE` for a new machine of so many members; `show`, which shows the lists; `restore` and the bytes of a state, with which
-//! the machine goes on where they spell one; `snapshot`, which shows the bytes of the machine's state. Lines that begin with `#` are
-//! comments. A line that is no row gives status 1, and then nothing is printed.
+//! `new N SIZE` for a new machine of so many members; `show`, which shows the lists, and `group G`, which shows one group; `restore`
+//! and the bytes of a state, with which the machine goes on where they spell one; `snapshot`, which shows the bytes of the machine's
+//! state. Lines that begin with `#` are comments. A line that is no row gives status 1, and then nothing is printed.
 #![tactic(auto)]
 
 ghost use Rattle.std.specs.Prelude.{◌≤◌, ◌^◌};

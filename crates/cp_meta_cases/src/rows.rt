@@ -2,7 +2,7 @@
 ghost use Rattle.std.specs.Prelude.{◌≤◌, ◌^◌, IfOk};
 
 use crate::answers;
-use crate::lists::append_lists;
+use crate::lists::{append_group_of, append_lists};
 use cp_answers::Answer;
 use cp_base::limits::LAST_NUMBER;
 use cp_base::{Invocation, Items, NoMemory, Text, read_decimal, read_hex, write_hex};
@@ -206,6 +206,10 @@ fn show_words(
         *machine = new_machine(alloc, words)?;
         return Ok(());
     }
+    if first == "group" {
+        append_group_of(machine, index_of(words)?, out)?;
+        return Ok(());
+    }
     let bytes = bytes_of(alloc, words)?;
     if first == "restore" {
         return show_restore(alloc, machine, &bytes, out);
@@ -213,8 +217,8 @@ fn show_words(
     show_entry(alloc, machine, index_of(first)?, &bytes, out)
 }
 
-/// Does what a row asks for: an index and the bytes of an entry, `new` with two numbers, `restore` and the bytes of a state,
-/// `snapshot`, or `show`.
+/// Does what a row asks for: an index and the bytes of an entry, `new` with two numbers, `group` with one, `restore` and the
+/// bytes of a state, `snapshot`, or `show`.
 fn show_row(
     alloc: Global,
     machine: &mut MetaMachine,
