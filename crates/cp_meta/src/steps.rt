@@ -59,11 +59,9 @@ impl MetaTables {
                 let answer = self.member_rule(op)?;
                 out.push((*call, answer))
             }
-            Op::Long(_, _) | Op::Ref(_, _) | Op::Lock(_, _) | Op::Sem(_, _) | Op::Jsem(_, _) => Ok(
-                (),
-            ),
-            Op::Latch(_, _) | Op::Session(_) | Op::Destroy(_, _) | Op::Change(_) | Op::Map(_, _) =>
-                Ok(()),
+            Op::Long(_, _) | Op::Ref(_, _) | Op::Map(_, _) | Op::Latch(_, _) => Ok(()),
+            Op::Lock(_, _) | Op::Sem(_, _) | Op::Jsem(_, _) => Ok(()),
+            Op::Session(_) | Op::Destroy(_, _) | Op::Change(_) => Ok(()),
         }
     }
 
