@@ -1,6 +1,6 @@
 -- Each answer is given exactly where it is said.
-use Rattle.std.proofs.Common.{◌≡◌, ℕ, ◌<◌, ◌≤◌, Bool, true, false, ◌||◌, not, ¬, List, [], ◌∷◌, length, Option, Some, None, refl, ap, sym, ◌∙◌, subst, arith, if◌then◌else◌}
-use Rattle.std.specs.Prelude.{nat_lt, ◌==◌, ◌↔◌, bytes_eq}
+use Rattle.std.proofs.Common.{◌≡◌, ℕ, ◌<◌, ◌≤◌, Bool, true, false, ◌||◌, not, List, [], ◌∷◌, length, Option, Some, None, refl, ap, sym, ◌∙◌, subst, arith, if◌then◌else◌}
+use Rattle.std.specs.Prelude.{nat_lt, ◌==◌, ◌≢◌, bytes_eq}
 use Rattle.std.specs.List as list
 use Rattle.std.proofs.lemmas.Option.{none-some}
 use Rattle.std.proofs.lemmas.Bool.{not-true}
@@ -34,13 +34,13 @@ test_same a b h = grind (arith, nat_tests)
 is_same : (a b : ℕ) → (a == b) ≡ true → a ≡ b
 is_same a b h = grind (arith, nat_tests)
 
-test_apart : (a b : ℕ) → ¬ (a ≡ b) → (a == b) ≡ false
+test_apart : (a b : ℕ) → a ≢ b → (a == b) ≡ false
 test_apart a b h = by (a == b) refl where
   by : (t : Bool) → (a == b) ≡ t → (a == b) ≡ false
   by true is = absurd (h (is_same a b is))
   by false is = is
 
-is_apart : (a b : ℕ) → (a == b) ≡ false → ¬ (a ≡ b)
+is_apart : (a b : ℕ) → (a == b) ≡ false → a ≢ b
 is_apart a b h same = absurd (no_true (sym (test_same a b same) ∙ h))
 
 -- the row that is found has the name

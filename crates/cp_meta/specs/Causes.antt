@@ -1,5 +1,5 @@
 -- Why METADATA answers what it answers: each answer that an operation can get, and where it gets it.
-use Rattle.std.specs.Prelude.{◌≡◌, ◌<◌, ◌≤◌, ◌×◌, ◌↔◌, ¬, ℕ, true, false, List, length, Option, Some, None}
+use Rattle.std.specs.Prelude.{◌≡◌, ◌<◌, ◌≤◌, ◌≢◌, ◌↔◌, ℕ, true, false, List, length, Option, Some, None}
 use Rattle.cp_answers.specs.declared.answer.Answer.{Answer}
 use Rattle.cp_answers.specs.declared.answer.Answer.TheVariants as answer
 use Rattle.cp_answers.specs.declared.argument.Argument.TheVariants as argument
@@ -39,7 +39,7 @@ pub data LeaveIsAnswered (m : ℕ) (s : MetaState) : Answer → Type 0 where
   leaves_later : is_unsettled s ≡ true → LeaveIsAnswered m s (answer.BadArgument argument.Leaving)
   not_active : is_unsettled s ≡ false → is_in (active s) m ≡ false → LeaveIsAnswered m s (answer.BadArgument argument.Member)
   only_one : is_unsettled s ≡ false → is_in (active s) m ≡ true → length (active s) ≡ 1 → LeaveIsAnswered m s (answer.BadArgument argument.Size)
-  leaves : is_unsettled s ≡ false → is_in (active s) m ≡ true → ¬ (length (active s) ≡ 1) → LeaveIsAnswered m s answer.Ok
+  leaves : is_unsettled s ≡ false → is_in (active s) m ≡ true → length (active s) ≢ 1 → LeaveIsAnswered m s answer.Ok
 
 -- what a `join` is answered
 pub data JoinIsAnswered (m : ℕ) (s : MetaState) : Answer → Type 0 where

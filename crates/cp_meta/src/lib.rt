@@ -1,7 +1,7 @@
 //! The machine of METADATA: it applies the entries of METADATA's log to its lists.
 #![tactic(auto)]
 
-mod causes;
+mod answering;
 mod changes;
 mod chosen;
 mod creating;
@@ -20,7 +20,7 @@ mod standings;
 mod steps;
 mod tables;
 
-pub use causes::answers_have_causes;
+pub use answering::answers_have_causes;
 pub use cp_meta_state::{GroupRow, MoveRow, Standing};
 pub use machine::MetaMachine;
 pub use tables::MetaTables;
