@@ -11,7 +11,8 @@ use Rattle.cp_answers.specs.declared.answer.Answer.TheVariants as answer
 use Rattle.cp_answers.specs.declared.argument.Argument.TheVariants as argument
 use Rattle.cp_group_state.proofs.Walk.{cases}
 use Rattle.cp_meta_state.specs.declared.rows.TheConstants.{MOST_GROUPS, MOST_DESTROYED}
-use Rattle.cp_meta_state.specs.MetaState.{MetaState, Groups, GroupRow, active, is_in, is_out, those}
+use Rattle.cp_meta_state.specs.declared.rows.GroupRow.{GroupRow}
+use Rattle.cp_meta_state.specs.MetaState.{MetaState, Groups, active, is_in, is_out, those}
 use Rattle.cp_meta_state.specs.Says.{Says}
 use Rattle.cp_meta_state.specs.Creating.{create, create_by, named}
 use Rattle.cp_meta_state.specs.Destroying.{destroy, destroy_by, destroy_row, given_up, is_fixed}
@@ -75,8 +76,8 @@ neither true b h = absurd (no_true h)
 neither false b h = (refl, h)
 
 second_of : (a b : Bool) → a ≡ false → (a || b) ≡ true → b ≡ true
-second_of true b no h = absurd (no_true no)
-second_of false b no h = h
+second_of true b first h = absurd (no_true first)
+second_of false b first h = h
 
 first_does : (a b : Bool) → a ≡ true → (a || b) ≡ true
 first_does true b h = refl
@@ -87,12 +88,12 @@ second_does true b h = refl
 second_does false b h = h
 
 neither_does : (a b : Bool) → a ≡ false → b ≡ false → (a || b) ≡ false
-neither_does true b no none = absurd (no_true no)
-neither_does false b no none = none
+neither_does true b first second = absurd (no_true first)
+neither_does false b first second = second
 
 destroy_row_why : (name : List ℕ) (s : MetaState) (e : ℕ × GroupRow) → named s.groups name ≡ Some e → e.1.name ≡ name → DestroyIsAnswered name s (destroy_row e.0 e.1 s).answer
-destroy_row_why name s e is own = cases (λ (r : Says). DestroyIsAnswered name s r.answer) (e.1.destroying || is_fixed e.1.name) _ _ (λ no. refused e.1.destroying refl no)
-    (λ yes. let both = neither e.1.destroying (is_fixed e.1.name) yes in
+destroy_row_why name s e is own = cases (λ (r : Says). DestroyIsAnswered name s r.answer) (e.1.destroying || is_fixed e.1.name) _ _ (λ refuses. refused e.1.destroying refl refuses)
+    (λ goes. let both = neither e.1.destroying (is_fixed e.1.name) goes in
     cases (λ (r : Says). DestroyIsAnswered name s r.answer) (nat_lt (given_up s) MOST_DESTROYED) _ _
     (λ room. destroys e is both.0 (fixed ∙ both.1) (less _ _ room)) (λ full. too_many e is both.0 (fixed ∙ both.1) (not_less _ _ full)))
   where
@@ -100,8 +101,8 @@ destroy_row_why name s e is own = cases (λ (r : Says). DestroyIsAnswered name s
     fixed = ap (λ (n : List ℕ). is_fixed n) (sym own)
 
     refused : (d : Bool) → e.1.destroying ≡ d → (e.1.destroying || is_fixed e.1.name) ≡ true → DestroyIsAnswered name s (answer.BadArgument argument.Group)
-    refused true ending no = ends_already e is ending
-    refused false standing no = stays e is (fixed ∙ second_of e.1.destroying (is_fixed e.1.name) standing no)
+    refused true ending refuses = ends_already e is ending
+    refused false standing refuses = stays e is (fixed ∙ second_of e.1.destroying (is_fixed e.1.name) standing refuses)
 
 destroy_why : (name : List ℕ) (s : MetaState) → DestroyIsAnswered name s (destroy name s).answer
 destroy_why name s = by (named s.groups name) refl where
@@ -114,13 +115,13 @@ row_where : (name : List ℕ) (s : MetaState) (e : ℕ × GroupRow) (a : Answer)
 row_where name s e a is h = ap (λ (o : Option (ℕ × GroupRow)). (destroy_by o s).answer) is ∙ h
 
 refused_where : (s : MetaState) (e : ℕ × GroupRow) → (e.1.destroying || is_fixed e.1.name) ≡ true → (destroy_row e.0 e.1 s).answer ≡ answer.BadArgument argument.Group
-refused_where s e no = rw no refl
+refused_where s e refuses = rw refuses refl
 
 too_many_where : (s : MetaState) (e : ℕ × GroupRow) → (e.1.destroying || is_fixed e.1.name) ≡ false → nat_lt (given_up s) MOST_DESTROYED ≡ false → (destroy_row e.0 e.1 s).answer ≡ answer.TableFull MOST_DESTROYED
-too_many_where s e yes full = rw yes (rw full refl)
+too_many_where s e goes full = rw goes (rw full refl)
 
 destroys_where : (s : MetaState) (e : ℕ × GroupRow) → (e.1.destroying || is_fixed e.1.name) ≡ false → nat_lt (given_up s) MOST_DESTROYED ≡ true → (destroy_row e.0 e.1 s).answer ≡ answer.Ok
-destroys_where s e yes room = rw yes (rw room refl)
+destroys_where s e goes room = rw goes (rw room refl)
 
 fixed_own : (name : List ℕ) (s : MetaState) (e : ℕ × GroupRow) (b : Bool) → named s.groups name ≡ Some e → is_fixed name ≡ b → is_fixed e.1.name ≡ b
 fixed_own name s e b is h = ap (λ (n : List ℕ). is_fixed n) (named_is s.groups name e is) ∙ h

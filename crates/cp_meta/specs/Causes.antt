@@ -4,7 +4,8 @@ use Rattle.cp_answers.specs.declared.answer.Answer.{Answer}
 use Rattle.cp_answers.specs.declared.answer.Answer.TheVariants as answer
 use Rattle.cp_answers.specs.declared.argument.Argument.TheVariants as argument
 use Rattle.cp_meta_state.specs.declared.rows.TheConstants.{MOST_GROUPS, MOST_DESTROYED}
-use Rattle.cp_meta_state.specs.MetaState.{MetaState, GroupRow, active, is_in, is_out, those}
+use Rattle.cp_meta_state.specs.declared.rows.GroupRow.{GroupRow}
+use Rattle.cp_meta_state.specs.MetaState.{MetaState, active, is_in, is_out, those}
 use Rattle.cp_meta_state.specs.Creating.{chosen, create, named}
 use Rattle.cp_meta_state.specs.Destroying.{destroy, given_up, is_fixed}
 use Rattle.cp_meta_state.specs.Leaving.{is_unsettled, leave}
