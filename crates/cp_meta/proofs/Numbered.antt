@@ -1,11 +1,10 @@
 -- Members and groups at first.
-use Rattle.std.proofs.Common.{◌≡◌, ℕ, zero, suc, ◌+◌, ◌-◌, ◌<◌, ◌≤◌, List, [], ◌∷◌, ◌++◌, map, refl, ap, sym, ◌∙◌, subst, append_assoc, arith}
+use Rattle.std.proofs.Common.{◌≡◌, ℕ, suc, ◌+◌, ◌-◌, ◌<◌, ◌≤◌, List, [], ◌∷◌, ◌++◌, map, refl, ap, sym, ◌∙◌, subst, append_assoc, arith}
 use Rattle.std.specs.Ordering.{nat_cmp}
 use Rattle.std.specs.List.Sorted.{IsStrictlySortedBy}
 use Rattle.std.proofs.lemmas.List.{append-nil}
 use Rattle.cp_group_state.specs.Invariants.{IsRising}
 use Rattle.cp_meta_state.specs.declared.rows.Standing.TheVariants.{Active}
-use Rattle.cp_meta_state.specs.declared.rows.Standing.{Standing}
 use Rattle.cp_meta_state.specs.declared.rows.GroupRow.{GroupRow}
 use Rattle.cp_meta_state.specs.MetaState.{Standings, Groups, numbers}
 use Rattle.cp_meta_state.proofs.Ordered.{numbers_rise}

@@ -1,13 +1,13 @@
 -- The states that have a spelling are the sound ones.
-use Rattle.std.proofs.Common.{◌≡◌, ℕ, zero, suc, ◌+◌, ◌-◌, ◌^◌, ◌<◌, ◌≤◌, Bool, true, false, ◌&&◌, List, [], ◌∷◌, length, Option, Some, None, Ok, refl, ap, sym, ◌∙◌, subst, cond, arith, is_some}
-use Rattle.std.specs.Prelude.{nat_le, nat_lt, ◌==◌, Result, Err, IfOk}
+use Rattle.std.proofs.Common.{◌≡◌, ℕ, ◌-◌, ◌^◌, ◌<◌, ◌≤◌, Bool, true, false, List, [], ◌∷◌, length, Option, Some, None, Ok, refl, ap, sym, ◌∙◌, subst, arith, is_some}
+use Rattle.std.specs.Prelude.{nat_le, nat_lt, Result, Err, IfOk}
 use Rattle.std.specs.Borrow.{Bor}
-use Rattle.std.specs.List.{AllByRecursion, filter, list_all}
+use Rattle.std.specs.List.{AllByRecursion}
 use Rattle.std.specs.List.Sorted.{IsStrictlySortedBy}
 use Rattle.std.specs.Map.{keys_of}
 use Rattle.std.specs.declared.cmp.Ordering.{Ordering}
 use Rattle.std.specs.declared.cmp.Ordering.TheVariants.{Less, Equal, Greater}
-use Rattle.std.specs.Ordering.{is_eq, nat_cmp, ordering_reverse}
+use Rattle.std.specs.Ordering.{nat_cmp, ordering_reverse}
 use Rattle.std.specs.BTreeMap.{is_at}
 use Rattle.std.proofs.lemmas.Cmp.{nat_cmp_total}
 use Rattle.std.proofs.lemmas.Option.{none-some}
@@ -17,7 +17,6 @@ use Rattle.std.proofs.lemmas.Map.Entries.{length-keys_of}
 use Rattle.cp_base.proofs.Tests.{no_true}
 use Rattle.cp_base.specs.declared.limits.TheConstants.{MOST_MEMBER}
 use Rattle.cp_codec.specs.Exact.{IsByte}
-use Rattle.cp_grammar.specs.Grammar.{whole}
 use Rattle.cp_grammar.specs.Laws.{whole_again}
 use Rattle.cp_grammar.specs.Readers.{Gives}
 use Rattle.cp_grammar.specs.declared.stop.Stop.{Stop}
@@ -34,7 +33,7 @@ use Rattle.cp_meta_state.specs.declared.rows.GroupRow.{GroupRow}
 use Rattle.cp_meta_state.specs.declared.rows.MoveRow.{MoveRow}
 use Rattle.cp_meta_state.specs.MetaState.{MetaState, Standings, Groups, Moves}
 use Rattle.cp_meta_state.specs.Destroying.{given_up}
-use Rattle.cp_meta_state.specs.Ranges.{MemberFits, GroupFits, DestroyedFits, MoveFits, StateFits, IsOrdered, IsSound, MovesAreOfGroups}
+use Rattle.cp_meta_state.specs.Ranges.{MemberFits, GroupFits, DestroyedFits, MoveFits, IsOrdered, IsSound, MovesAreOfGroups}
 use Rattle.cp_meta_state.proofs.Among.{Among, all-among, there-among, each-weaker}
 use Rattle.cp_meta_state.proofs.Keeping.{each-find}
 use Rattle.cp_meta_state.proofs.Chosen.{few_members, all_are_members}

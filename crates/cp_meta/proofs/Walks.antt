@@ -1,5 +1,5 @@
 -- Walks over the rows of a list.
-use Rattle.std.proofs.Common.{◌≡◌, ℕ, suc, ◌-◌, ◌^◌, ◌<◌, ◌≤◌, ◌⊎◌, inl, inr, min, arith, not, length, Bool, true, false, List, [], ◌∷◌, ◌++◌, refl, ap, sym, ◌∙◌, subst, append_assoc, if◌then◌else◌}
+use Rattle.std.proofs.Common.{◌≡◌, ℕ, suc, ◌-◌, ◌^◌, ◌<◌, ◌≤◌, ◌⊎◌, inl, inr, min, arith, not, length, true, false, List, [], ◌∷◌, ◌++◌, refl, ap, sym, ◌∙◌, append_assoc}
 use Rattle.std.specs.Prelude.{nat_lt, nat_le, ◌==◌}
 use Rattle.std.proofs.lemmas.Bool.{cases_lt}
 use Rattle.std.proofs.lemmas.Bool.Decides.{nat_tests}
@@ -8,7 +8,6 @@ use Rattle.std.specs.Ordering.{nat_cmp}
 use Rattle.cp_group_state.specs.Rows.{put}
 use Rattle.cp_meta_state.specs.declared.rows.Standing.{Standing}
 use Rattle.cp_meta_state.specs.declared.rows.GroupRow.{GroupRow}
-use Rattle.cp_meta_state.specs.declared.rows.MoveRow.{MoveRow}
 use Rattle.cp_meta_state.specs.MetaState.{Standings, Groups, Moves, is_active, is_leaving, is_in, those}
 use Rattle.cp_meta_state.specs.Leaving.{move_away, one_for}
 

@@ -1,5 +1,4 @@
 -- The grammar of METADATA's state is lawful.
-use Rattle.std.specs.Prelude.{ℕ}
 use Rattle.cp_codec.specs.Exact.{IsByte}
 use Rattle.cp_grammar.specs.Lawful.{IsLawful}
 use Rattle.cp_grammar.specs.FieldLaws.{lawful}

@@ -1,12 +1,11 @@
 -- The grammars of rows are lawful.
 use Rattle.std.specs.Prelude.{ℕ, List}
-use Rattle.std.specs.Map.{keys_of}
 use Rattle.cp_codec.specs.Exact.{IsByte}
 use Rattle.cp_grammar.specs.Lawful.{IsLawful}
 use Rattle.cp_grammar.specs.FieldLaws.{lawful}
 use Rattle.cp_grammar.specs.CommonLaws.{index_lawful, name_lawful, member_after_lawful, members_lawful}
 use Rattle.cp_meta_state.specs.MetaState.{Standings, Groups, Moves}
-use Rattle.cp_meta.specs.Rows.{standing_grammar, is_behind, number_behind, member_row, group_row, destroyed_row, move_row}
+use Rattle.cp_meta.specs.Rows.{standing_grammar, number_behind, member_row, group_row, destroyed_row, move_row}
 
 pub standing_lawful : IsLawful IsByte standing_grammar
 unfolding standing_grammar

@@ -1,5 +1,5 @@
 -- The rows of METADATA's lists as bytes. Each key is above that of the row before it, and fails at its first byte where it isn't.
-use Rattle.std.specs.Prelude.{ℕ, ◌-◌, Bool, true, List, [], length, Option, Some, None, nat_lt, slice_get}
+use Rattle.std.specs.Prelude.{ℕ, ◌-◌, Bool, true, List, length, Option, Some, None, nat_lt, slice_get}
 use Rattle.std.specs.Map.{keys_of}
 use Rattle.cp_base.specs.declared.limits.TheConstants.{MOST_MEMBER}
 use Rattle.cp_grammar.specs.Grammar.{Grammar, always, checked, keyed, case, no_case, mapped, ◌then◌}
