@@ -5,7 +5,6 @@ ghost use Rattle.cp_grammar.specs.Common.{member_after};
 ghost use Rattle.cp_grammar.specs.Readers.{Reads};
 ghost use Rattle.cp_meta_state.specs.Ranges.{DestroyedFits, GroupFits, MemberFits, MoveFits};
 ghost use Rattle.cp_meta.specs.Rows.{destroyed_row, group_row, is_behind, member_row, move_row, number_behind, standing_grammar};
-ghost use Rattle.cp_meta.specs.RowLaws.{standing_lawful};
 
 use crate::row::RowKey;
 use cp_base::limits::MOST_MEMBER;

@@ -2,7 +2,6 @@
 ghost use Rattle.std.specs.Prelude.{◌≡◌, ◌++◌, ◌&&◌, Ok, nat_le, IfOk, OnErr, OnOk};
 ghost use Rattle.cp_grammar.specs.Readers.{Gives, Reads, Tells};
 ghost use Rattle.cp_meta_state.specs.declared.rows.TheConstants.{MOST_DESTROYED};
-ghost use Rattle.cp_meta_state.specs.MetaState.{MetaState};
 ghost use Rattle.cp_meta_state.specs.Destroying.{given_up};
 ghost use Rattle.cp_meta_state.specs.Ranges.{IsOrdered, IsSound};
 ghost use Rattle.cp_meta.specs.Bytes.{destroyed_list, group_list, member_list, move_list};

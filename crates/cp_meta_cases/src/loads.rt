@@ -1,6 +1,5 @@
 //! Entries of METADATA to be timed, with 64 groups standing.
 ghost use Rattle.std.specs.Prelude.{◌≤◌, ◌^◌};
-ghost use Rattle.cp_machine.specs.Machines.{IsSized};
 
 use crate::answers;
 use cp_base::{GroupId, NoMemory};
