@@ -21,25 +21,33 @@ IsTaken s name e = named s.groups name ≡ Some e
 
 -- what a `create` is answered
 pub data CreateIsAnswered (index : ℕ) (name : List ℕ) (size : ℕ) (s : MetaState) : Answer → Type 0 where
-  name_ends : (e : ℕ × GroupRow) → IsTaken s name e → e.1.destroying ≡ true → CreateIsAnswered index name size s (answer.GroupDestroyed (record { 0 = e.0 }))
-  name_stands : (e : ℕ × GroupRow) → IsTaken s name e → e.1.destroying ≡ false → CreateIsAnswered index name size s (answer.Group (record { 0 = e.0 }) e.1.members)
+  name_ends : (e : ℕ × GroupRow) → IsTaken s name e → e.1.destroying ≡ true
+      → CreateIsAnswered index name size s (answer.GroupDestroyed (record { 0 = e.0 }))
+  name_stands : (e : ℕ × GroupRow) → IsTaken s name e → e.1.destroying ≡ false
+      → CreateIsAnswered index name size s (answer.Group (record { 0 = e.0 }) e.1.members)
   few_active : IsFree s name → length (active s) < size → CreateIsAnswered index name size s (answer.BadArgument argument.Size)
-  no_room : IsFree s name → size ≤ length (active s) → MOST_GROUPS ≤ length s.groups → CreateIsAnswered index name size s (answer.TableFull MOST_GROUPS)
-  makes : IsFree s name → size ≤ length (active s) → length s.groups < MOST_GROUPS → CreateIsAnswered index name size s (answer.Group (record { 0 = index }) (chosen size s))
+  no_room : IsFree s name → size ≤ length (active s) → MOST_GROUPS ≤ length s.groups
+      → CreateIsAnswered index name size s (answer.TableFull MOST_GROUPS)
+  makes : IsFree s name → size ≤ length (active s) → length s.groups < MOST_GROUPS
+      → CreateIsAnswered index name size s (answer.Group (record { 0 = index }) (chosen size s))
 
 -- what a `destroy` is answered
 pub data DestroyIsAnswered (name : List ℕ) (s : MetaState) : Answer → Type 0 where
   no_name : IsFree s name → DestroyIsAnswered name s (answer.BadArgument argument.Group)
-  ends_already : (e : ℕ × GroupRow) → IsTaken s name e → e.1.destroying ≡ true → DestroyIsAnswered name s (answer.BadArgument argument.Group)
+  ends_already : (e : ℕ × GroupRow) → IsTaken s name e → e.1.destroying ≡ true
+      → DestroyIsAnswered name s (answer.BadArgument argument.Group)
   stays : (e : ℕ × GroupRow) → IsTaken s name e → is_fixed name ≡ true → DestroyIsAnswered name s (answer.BadArgument argument.Group)
-  too_many : (e : ℕ × GroupRow) → IsTaken s name e → e.1.destroying ≡ false → is_fixed name ≡ false → MOST_DESTROYED ≤ given_up s → DestroyIsAnswered name s (answer.TableFull MOST_DESTROYED)
-  destroys : (e : ℕ × GroupRow) → IsTaken s name e → e.1.destroying ≡ false → is_fixed name ≡ false → given_up s < MOST_DESTROYED → DestroyIsAnswered name s answer.Ok
+  too_many : (e : ℕ × GroupRow) → IsTaken s name e → e.1.destroying ≡ false → is_fixed name ≡ false → MOST_DESTROYED ≤ given_up s
+      → DestroyIsAnswered name s (answer.TableFull MOST_DESTROYED)
+  destroys : (e : ℕ × GroupRow) → IsTaken s name e → e.1.destroying ≡ false → is_fixed name ≡ false → given_up s < MOST_DESTROYED
+      → DestroyIsAnswered name s answer.Ok
 
 -- what a `leave` is answered
 pub data LeaveIsAnswered (m : ℕ) (s : MetaState) : Answer → Type 0 where
   leaves_later : is_unsettled s ≡ true → LeaveIsAnswered m s (answer.BadArgument argument.Leaving)
   not_active : is_unsettled s ≡ false → is_in (active s) m ≡ false → LeaveIsAnswered m s (answer.BadArgument argument.Member)
-  only_one : is_unsettled s ≡ false → is_in (active s) m ≡ true → length (active s) ≡ 1 → LeaveIsAnswered m s (answer.BadArgument argument.Size)
+  only_one : is_unsettled s ≡ false → is_in (active s) m ≡ true → length (active s) ≡ 1
+      → LeaveIsAnswered m s (answer.BadArgument argument.Size)
   leaves : is_unsettled s ≡ false → is_in (active s) m ≡ true → length (active s) ≢ 1 → LeaveIsAnswered m s answer.Ok
 
 -- what a `join` is answered
@@ -50,7 +58,8 @@ pub data JoinIsAnswered (m : ℕ) (s : MetaState) : Answer → Type 0 where
 
 -- Each answer is given exactly where it is said above, in every state.
 pub record AnswersHaveCauses : Type 0 where
-  pub created : (index : ℕ) (name : List ℕ) (size : ℕ) (s : MetaState) (a : Answer) → ((create index name size s).answer ≡ a) ↔ CreateIsAnswered index name size s a
+  pub created : (index : ℕ) (name : List ℕ) (size : ℕ) (s : MetaState) (a : Answer)
+      → ((create index name size s).answer ≡ a) ↔ CreateIsAnswered index name size s a
   pub destroyed : (name : List ℕ) (s : MetaState) (a : Answer) → ((destroy name s).answer ≡ a) ↔ DestroyIsAnswered name s a
   pub left : (m : ℕ) (s : MetaState) (a : Answer) → ((leave m s).answer ≡ a) ↔ LeaveIsAnswered m s a
   pub joined : (m : ℕ) (s : MetaState) (a : Answer) → ((join m s).answer ≡ a) ↔ JoinIsAnswered m s a
