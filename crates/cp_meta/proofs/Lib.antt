@@ -1,0 +1,11 @@
+pub mod Walks
+pub mod Told
+pub mod Turns
+pub mod Numbered
+pub mod Entries
+pub mod Behind
+pub mod Sound
+pub mod Written
+pub mod Snapshots
+pub mod There
+pub mod Causes

@@ -1,0 +1,10 @@
+pub mod Turns
+pub mod Stepping
+pub mod Rows
+pub mod RowLaws
+pub mod Bytes
+pub mod BytesLaws
+pub mod Lawful
+pub mod Spelled
+pub mod MetaRows
+pub mod Causes
