@@ -1,5 +1,6 @@
 //! The machine of a group that holds objects.
 ghost use Rattle.std.specs.Prelude.{◌≡◌, ◌++◌, ◌<◌, ◌≤◌, ◌^◌, Ok, Some, length, slice_get, IfOk, OnErr, OnOk};
+ghost use Rattle.cp_base.specs.declared.limits.TheConstants.{LAST_NUMBER};
 ghost use Rattle.cp_machine.specs.Machines.{AnswersFit, LookFits, TimerFits};
 ghost use Rattle.cp_group_state.specs.GroupState.{empty};
 ghost use Rattle.cp_state_bytes.specs.States.{restored, spelled};

@@ -255,7 +255,8 @@ module _ (plan : Plan) (e : Event) (world : World) (r : IsReached plan world) wh
   pub same_events : (one : World) (x : Turn) (two : World) (y : Turn) (three : World) (z : Turn) → Leads (rules.begin plan e) world (fresh world) one x → Leads (rules.handed plan) one x two y → Leads (rules.handed plan) two y three z → three.events ≡ world.events
   same_events one x two y three z begin hand again =
       let g = again.leads (rules.world_after plan rules.new_world r.events) e third (hand.leads (rules.world_after plan rules.new_world r.events) e second (begin.leads (rules.world_after plan rules.new_world r.events) e first goes_first)) in
-      g.rest.events ∙ ap length g.rest.effects_are ∙ sym r.follows.events
+      let one_more : three.events + 1 ≡ world.events + 1 = g.rest.events ∙ ap length g.rest.effects_are ∙ sym r.follows.events in
+      omega arith
 
 -- the event, whole
 pub is_step : (plan : Plan) (e : Event) (w : rules.World) (world one two three : World) (x y z : Turn) → Leads (rules.begin plan e) world (fresh world) one x → Leads (rules.handed plan) one x two y → Leads (rules.handed plan) two y three z → Follows w world
