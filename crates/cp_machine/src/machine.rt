@@ -1,5 +1,5 @@
 //! What a group of members applies its entries to.
-ghost use Rattle.std.specs.Prelude.{◌≡◌, ◌++◌, ◌<◌, ◌≤◌, [], ℕ, List, length, Option, Some, Result, Err, OnOk, OnErr, IfOk};
+ghost use Rattle.std.specs.Prelude.{◌≡◌, ◌++◌, ◌<◌, ◌≤◌, [], ℕ, List, length, Option, Some, Result, Err, OnOk, OnErr, IfOk, IfSome};
 ghost use Rattle.std.specs.List.{slice_get};
 ghost use Rattle.cp_base.specs.declared.identifier.GroupId.{GroupId};
 ghost use Rattle.cp_base.specs.declared.limits.TheConstants.{LAST_NUMBER};
@@ -63,12 +63,11 @@ pub trait Machine: Sized + Drop {
     fn timers(&self) -> usize
         ensures { result ≡ length (timers (view self.now)) };
 
-    /// The one at this place, from 0.
-    fn timer(&self, place: usize) -> Timer
-        requires { place < length (timers (view self.now)) }
-        ensures found { slice_get (timers (view self.now)) place ≡ Some result }
+    /// The one at this place, from 0; none behind them.
+    fn timer(&self, place: usize) -> Option<Timer>
+        ensures found { result ≡ slice_get (timers (view self.now)) place }
         // What it names can be spelled.
-        ensures fit { TimerFits result };
+        ensures fit { IfSome result (λ timer. TimerFits timer) };
 
     /// Appends bytes that restore to this machine, or leaves `out`.
     fn write_snapshot(&self, out: &mut Vec<u8>) -> Result<(), NoMemory>

@@ -1,8 +1,9 @@
 -- What waits for its time to be over, place by place.
-use Rattle.std.proofs.Common.{◌≡◌, ◌+◌, ◌<◌, ◌≤◌, ℕ, zero, suc, Bool, true, false, List, [], ◌∷◌, ◌++◌, length, Some, None, ap, ◌∙◌, subst, arith, if◌then◌else◌}
+use Rattle.std.proofs.Common.{◌≡◌, ◌+◌, ◌<◌, ◌≤◌, ℕ, zero, suc, Bool, true, false, List, [], ◌∷◌, ◌++◌, length, Some, None, ap, sym, ◌∙◌, subst, arith, if◌then◌else◌}
 use Rattle.std.specs.Prelude.{slice_get}
 use Rattle.std.specs.List.{filter, AllByRecursion}
 use Rattle.std.specs.Option.{option_map}
+use Rattle.std.proofs.lemmas.Option.{slice_get_past}
 use Rattle.std.proofs.lemmas.List.Sums.{length-filter, count_by-le-length}
 use Rattle.cp_grammar.specs.Common.{index, invocation}
 use Rattle.cp_group_state.specs.declared.rows.SessionRow.{SessionRow}
@@ -69,3 +70,7 @@ waiter_fits ws k w all h = at (filter waits_limited ws) k (kept ws all) h where
 -- the waits of some time only are no more than all
 pub limited_few : (ws : List Waiter) (most : ℕ) → length ws ≤ most → length (filter waits_limited ws) ≤ most
 limited_few ws most few = rw length-filter (omega (arith, few, count_by-le-length waits_limited ws))
+
+-- nothing stands behind a list
+pub none_behind : {X : Type 0} (xs : List X) (k : ℕ) → length xs ≤ k → None ≡ slice_get xs k
+none_behind xs k behind = sym (slice_get_past xs k behind)

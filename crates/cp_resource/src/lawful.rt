@@ -49,7 +49,7 @@ impl Machine for GroupMachine {
         self.timer_count()
     }
 
-    fn timer(&self, place: usize) -> Timer {
+    fn timer(&self, place: usize) -> Option<Timer> {
         self.timer_at(place)
     }
 

@@ -1,5 +1,5 @@
 //! The machine of a group that holds objects.
-ghost use Rattle.std.specs.Prelude.{◌≡◌, ◌++◌, ◌<◌, ◌≤◌, ◌^◌, Ok, Some, length, slice_get, IfOk, OnErr, OnOk};
+ghost use Rattle.std.specs.Prelude.{◌≡◌, ◌++◌, ◌<◌, ◌≤◌, ◌^◌, Ok, Some, length, slice_get, IfOk, IfSome, OnErr, OnOk};
 ghost use Rattle.cp_base.specs.declared.limits.TheConstants.{LAST_NUMBER};
 ghost use Rattle.cp_machine.specs.Machines.{AnswersFit, LookFits, TimerFits};
 ghost use Rattle.cp_group_state.specs.GroupState.{empty};
@@ -86,8 +86,8 @@ impl GroupMachine {
         count(&self.tables)
     }
 
-    /// The one at this place, from 0.
-    pub fn timer_at(&self, place: usize) -> Timer
+    /// The one at this place among them.
+    fn timer_among(&self, place: usize) -> Timer
         requires { place < length (timers_of self.now) }
         ensures found { slice_get (timers_of self.now) place ≡ Some result }
         ensures fit { TimerFits result }
@@ -96,6 +96,19 @@ impl GroupMachine {
             unreachable!();
         }
         timer_at(&self.tables, place)
+    }
+
+    /// The one at this place, from 0; none behind them.
+    #[tactic(auto, using(crate::proofs::Timers::none_behind))]
+    pub fn timer_at(&self, place: usize) -> Option<Timer>
+        ensures found { result ≡ slice_get (timers_of self.now) place }
+        ensures fit { IfSome result (λ timer. TimerFits timer) }
+    {
+        if place < self.timer_count() {
+            Some(self.timer_among(place))
+        } else {
+            None
+        }
     }
 
     /// What a read is answered without an entry. Bytes that spell no such read are answered by none.
