@@ -24,7 +24,7 @@ fn on_group(alloc: Global, part: u8, group: u64) -> Result<Vec<u8>, AllocError> 
     let name = group.to_string(alloc)?;
     let name = name.as_bytes();
     let mut bytes = Vec::from_slice(alloc, &[9, part, 0, 0, 0])?;
-    bytes.push(name.len() as u8)?;
+    bytes.push(name.len().min(64) as u8)?;
     bytes.extend_from_slice(name)?;
     if part == 0 {
         bytes.push(3)?;
@@ -96,7 +96,7 @@ fn on_member(index: u64) -> [u8; 3] {
 fn asked(alloc: Global, index: u64) -> Result<Vec<u8>, AllocError> {
     let group = index / 10 % MADE;
     match index % 10 {
-        1 => on_group(alloc, 0, 1000 + index),
+        1 => on_group(alloc, 0, index),
         2 => Vec::from_slice(
             alloc,
             &[9, 1, 0, 0, 0, 7, b'd', b'e', b'f', b'a', b'u', b'l', b't'],
